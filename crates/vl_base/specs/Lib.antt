@@ -1,0 +1,5 @@
+pub mod Adapters
+pub mod Fakes
+pub mod Faults
+pub mod Sink
+pub mod Source

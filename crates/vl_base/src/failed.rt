@@ -1,0 +1,3 @@
+/// A call of the outside that failed. The count of faults of the object rose in that call.
+#[derive(Clone, Copy, Debug, PartialEq, Eq)]
+pub struct Failed;
