@@ -1,0 +1,4 @@
+pub mod Cutting
+pub mod Entries
+pub mod KeyOrder
+pub mod Keying

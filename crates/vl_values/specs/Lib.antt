@@ -1,0 +1,14 @@
+pub mod Among
+pub mod Cause
+pub mod Group
+pub mod Key
+pub mod Keyed
+pub mod Limit
+pub mod LostWhy
+pub mod Order
+pub mod Piece
+pub mod Pred
+pub mod Reply
+pub mod Row
+pub mod Unsupported
+pub mod Value
