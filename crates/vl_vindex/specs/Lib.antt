@@ -1,0 +1,5 @@
+pub mod Checking
+pub mod KeyRange
+pub mod Reading
+pub mod Ring
+pub mod Vindex
