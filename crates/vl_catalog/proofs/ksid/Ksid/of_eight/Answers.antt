@@ -1,0 +1,6 @@
+use Rattle.std.proofs.Common.{◌∙◌}
+use Rattle.std.proofs.lemmas.List.{take_at}
+use Rattle.vl_catalog.proofs.ksid.Ksid.of_eight.Goals as goal
+
+pub returns : goal.returns
+returns c = take_at c.copy_from_slice.new.self _ 8 c.copy_from_slice.ensures.len ∙ c.copy_from_slice.ensures.after

@@ -1,0 +1,5 @@
+pub mod Build
+pub mod CatalogA
+pub mod Part
+pub mod Place
+pub mod Vindex

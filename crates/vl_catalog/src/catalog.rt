@@ -1,0 +1,90 @@
+use crate::build::catalog_of;
+use crate::catalog_a::catalog_a;
+use crate::duplicate::duplicates;
+use crate::keyspace::Keyspace;
+use crate::keyspace_parts::KeyspaceParts;
+use crate::ksid::Ksid;
+use crate::lookup::Lookup;
+use crate::place::{ksid_at, place_by, shards_counted};
+use crate::table::Table;
+use crate::{ShardNo, TableNo};
+use sqlite_items::Items;
+use std::alloc::{AllocError, Global};
+use vl_values::value::Value;
+use vl_vindex::Ring;
+
+/// What the gateway knows of its keyspaces. Shards are numbered from 0 over the keyspaces in their
+/// order, and within a keyspace by the start of the range.
+#[derive(Drop)]
+pub struct Catalog {
+    pub keyspaces: Items<Keyspace>,
+    pub tables: Items<Table>,
+    pub lookups: Items<Lookup>,
+    /// The ring of each keyspace.
+    pub rings: Items<Ring>,
+}
+
+impl Catalog {
+    ghost use Rattle.std.specs.Prelude.{◌≡◌, ◌<◌, ◌^◌, IfOk, length};
+    ghost use Rattle.std.specs.Option.{SomeIff};
+    ghost use Rattle.vl_catalog.specs.Build.{catalog_of};
+    ghost use Rattle.vl_catalog.specs.CatalogA.{catalog_a};
+    ghost use Rattle.vl_catalog.specs.Place.{ksid_of, place, shard_count};
+
+    /// The catalog that the parts of its keyspaces mean.
+    pub fn build(alloc: Global, parts: Vec<KeyspaceParts>) -> Result<Catalog, AllocError>
+        ensures { IfOk result (λ catalog. catalog ≡ catalog_of parts.items) }
+    {
+        catalog_of(alloc, &parts)
+    }
+
+    /// The built-in catalog: keyspace commerce with the shards `-80` and `80-`.
+    pub fn a(alloc: Global) -> Result<Catalog, AllocError>
+        ensures { IfOk result (λ catalog. catalog ≡ catalog_a) }
+    {
+        catalog_a(alloc)
+    }
+
+    pub fn copy(&self, alloc: Global) -> Result<Catalog, AllocError>
+        ensures { IfOk result (λ catalog. catalog ≡ self.now) }
+    {
+        Ok(Catalog {
+            keyspaces: duplicates(alloc, self.keyspaces.as_slice())?,
+            tables: duplicates(alloc, self.tables.as_slice())?,
+            lookups: duplicates(alloc, self.lookups.as_slice())?,
+            rings: duplicates(alloc, self.rings.as_slice())?,
+        })
+    }
+
+    /// How many shards the keyspaces have, where 32 bits can count them.
+    pub fn shard_count(&self) -> Option<u32>
+        ensures { SomeIff result (shard_count self.now.rings < 2 ^ 32) (shard_count self.now.rings) }
+    {
+        shards_counted(self.rings.as_slice())
+    }
+
+    /// The shard on which a row of a table stands: that whose range holds its keyspace id, or the one
+    /// shard of a keyspace that isn't sharded. A row without a keyspace id has none.
+    pub fn place_of(&self, table: TableNo, row: &[Value]) -> Option<ShardNo>
+        requires shards { shard_count self.now.rings < 2 ^ 32 }
+        ensures { result ≡ place self.now table row.now }
+    {
+        match self.tables.as_slice().get(table as usize) {
+            Some(table) => place_by(self.rings.as_slice(), table.keyspace, table.primary, row),
+            None => None,
+        }
+    }
+
+    /// The keyspace id of a row of a table.
+    pub fn ksid_of(&self, table: TableNo, row: &[Value]) -> Option<Ksid>
+        ensures { result ≡ ksid_of self.now table row.now }
+    {
+        match self.tables.as_slice().get(table as usize) {
+            Some(table) => match table.primary {
+                Some(primary) => ksid_at(primary, row),
+                None => None,
+            },
+            None => None,
+        }
+    }
+}

@@ -1,0 +1,14 @@
+use crate::keyspace_vschema::KeyspaceVschema;
+use crate::table_def::TableDef;
+use sqlite_items::Items;
+use vl_values::bytes::Bytes;
+use vl_vindex::Ring;
+
+/// What the files of a catalog say of one keyspace.
+#[derive(Drop)]
+pub struct KeyspaceParts {
+    pub name: Bytes,
+    pub ring: Ring,
+    pub vschema: KeyspaceVschema,
+    pub tables: Items<TableDef>,
+}

@@ -1,0 +1,15 @@
+use crate::table_vschema::TableVschema;
+use crate::vindex_def::VindexDef;
+use sqlite_items::Items;
+use vl_values::bytes::Bytes;
+
+/// What a keyspace's VSchema file says. Its reader lists vindexes and tables by the bytes of their
+/// names, each name once.
+#[derive(Drop)]
+pub struct KeyspaceVschema {
+    pub sharded: bool,
+    pub vindexes: Items<VindexDef>,
+    pub tables: Items<TableVschema>,
+    /// The paths of what the file has besides.
+    pub ignored: Items<Bytes>,
+}
