@@ -1,0 +1,2 @@
+/// The exit status of the program.
+pub type Status = u8;
