@@ -1,0 +1,4 @@
+pub mod Runs
+pub mod Others
+pub mod Steps
+pub mod Turns
