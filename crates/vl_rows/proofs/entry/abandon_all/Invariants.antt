@@ -1,0 +1,6 @@
+use Rattle.std.proofs.Common.{◌≡◌, ◌++◌, take, drop, map}
+use Rattle.vl_rows.specs.Slots.{abandoned_in}
+use Rattle.vl_rows.proofs.entry.abandon_all.Given as goal
+
+abbrev pub invariant-loop-entry : goal.invariant-loop-entry
+invariant-loop-entry l = l.slots ≡ map (abandoned_in l.conn) (take l.entry-index l.fn.slots) ++ drop l.entry-index l.fn.slots
