@@ -1,0 +1,136 @@
+ghost use Rattle.std.specs.Prelude.{◌≡◌, ℕ, List, [], IsTrue, IfOk, IfSome, IfNone, map, position, length, Some, ◌<◌, true};
+ghost use Rattle.std.specs.Option.{is_some};
+ghost use Rattle.vl_shard.specs.declared.seat.Seat.{Seat as ASeat};
+ghost use Rattle.vl_shard.specs.Seats.{seat_at, IsAbsent, IsPlaceFor, SameSeats, HasSat, left_by, is_of, IsOnce};
+
+use crate::naming::is_seat_of;
+use crate::seat::Seat;
+use std::alloc::{AllocError, Global};
+use std::marker::Model;
+use vl_port::opened::Opened;
+use vl_port::who::Who;
+use vl_rows::ConnNo;
+use vl_values::SessionNo;
+
+/// The open shard sessions, each in a seat whose place is its number.
+#[derive(Debug, Drop)]
+pub struct Seats {
+    seats: Vec<Option<Seat>>,
+}
+
+impl Model for Seats {
+    ghost use Rattle.std.specs.Prelude.{List};
+    ghost use Rattle.std.specs.declared.option.Option.{Option};
+    ghost use Rattle.vl_shard.specs.declared.seat.Seat.{Seat as ASeat};
+
+    ghost Value = { List (Option ASeat) };
+
+    ghost use Rattle.vl_shard.specs.Seats.{IsOnce};
+
+    ghost view = { λ s. s.seats.items };
+
+    ghost invariant = { λ s. IsOnce s.seats.items };
+}
+
+impl Seats {
+    /// No session is open.
+    pub fn new(alloc: Global) -> Seats
+        ensures { result ≡ [] }
+    {
+        Seats {
+            seats: Vec::new(alloc),
+        }
+    }
+
+    // The place of a session's seat.
+    fn place_of(&self, who: &Who) -> Option<usize>
+        ensures seated { IfSome result (λ place. (place < length self.now) × (is_of who.now (seat_at self.now place) ≡ true)) }
+        ensures absent { IfNone result (IsAbsent self.now who.now) }
+        ensures once { IsOnce self.now }
+    {
+        self.seats.iter().position(|seat| is_seat_of(seat, who))
+    }
+
+    /// The number of an open session.
+    pub fn find(&self, who: &Who) -> Option<ConnNo>
+        ensures seated { IfSome result (IsPlaceFor self.now who.now) }
+        ensures taken { IfSome result (λ conn. IsTrue (is_some (seat_at self.now conn))) }
+        ensures absent { IfNone result (IsAbsent self.now who.now) }
+    {
+        match self.place_of(who) {
+            Some(place) => Some(place as ConnNo),
+            None => None,
+        }
+    }
+
+    // The place of a free seat.
+    fn free_place(&self) -> Option<usize>
+        ensures { IfSome result (λ place. (place < length self.now) × (seat_at self.now place ≡ None)) }
+    {
+        self.seats.iter().position(|seat| seat.is_none())
+    }
+
+    /// The number of a session: its own where it is open, else that of a free seat. Nobody sits down.
+    pub fn reserve(&mut self, who: &Who) -> Result<ConnNo, AllocError>
+        ensures place { IfOk result (IsPlaceFor self.new who.now) }
+        ensures same { SameSeats self.old self.new }
+    {
+        if let Some(conn) = self.find(who) {
+            return Ok(conn);
+        }
+        if let Some(place) = self.free_place() {
+            return Ok(place as ConnNo);
+        }
+        let place = self.seats.len();
+        self.seats.push(None)?;
+        Ok(place as ConnNo)
+    }
+
+    /// Gives the session this seat, unless it has it.
+    pub fn sit(&mut self, who: Who, conn: ConnNo, incarnation: u64)
+        requires { IsPlaceFor self.old who conn }
+        ensures { HasSat self.old who incarnation conn self.new }
+    {
+        let place = conn as usize;
+        if self.seats[place].is_none() {
+            let opened = Opened {
+                incarnation,
+                killed: false,
+            };
+            self.seats[place] = Some(Seat { who, opened });
+        }
+    }
+
+    /// The client session of an open session.
+    pub fn session(&self, conn: ConnNo) -> SessionNo
+        ensures { (seat : ASeat) → seat_at self.now conn ≡ Some seat → result ≡ seat.who.session }
+    {
+        match self.seats.get(conn as usize) {
+            Some(Some(seat)) => seat.who.session,
+            _ => 0,
+        }
+    }
+
+    /// The session's seat is free from now on.
+    pub fn leave(&mut self, who: &Who)
+        ensures { self.new ≡ map (left_by who.now) self.old }
+    {
+        leave_all(self.seats.as_mut_slice(), who);
+    }
+}
+
+fn leave_seat(seat: &mut Option<Seat>, who: &Who)
+    ensures { seat.new ≡ left_by who.now seat.old }
+{
+    if is_seat_of(seat, who) {
+        *seat = None;
+    }
+}
+
+fn leave_all(seats: &mut [Option<Seat>], who: &Who)
+    ensures { seats.new ≡ map (left_by who.now) seats.old }
+{
+    for seat in seats.iter_mut() {
+        leave_seat(seat, who);
+    }
+}
