@@ -1,0 +1,4 @@
+pub mod Tok
+pub mod Lexical
+pub mod View
+pub mod Steps
