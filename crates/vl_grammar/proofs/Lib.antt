@@ -1,0 +1,9 @@
+pub mod Loop
+pub mod Spelling
+pub mod Rule
+pub mod ListRule
+pub mod TerminalRules
+pub mod Laws
+pub mod Written
+pub mod Again
+pub mod Laying

@@ -1,0 +1,5 @@
+pub mod Terminal
+pub mod Item
+pub mod Reading
+pub mod Layout
+pub mod Lists
