@@ -1,0 +1,5 @@
+pub mod SeenLemmas
+pub mod PartRules
+pub mod StatementRules
+pub mod Whole
+pub mod PrintedAgain

@@ -1,0 +1,5 @@
+pub mod Grammar
+pub mod Reading
+pub mod Seen
+pub mod Separator
+pub mod Fault

@@ -1,0 +1,14 @@
+use vl_values::bytes::Bytes;
+
+#[derive(Clone, Copy, Debug, PartialEq, Eq)]
+pub enum Direction {
+    Ascending,
+    Descending,
+}
+
+/// A column that ORDER BY names. With no direction said the order is ascending.
+#[derive(Debug, Drop)]
+pub struct Order {
+    pub column: Bytes,
+    pub direction: Option<Direction>,
+}
