@@ -1,0 +1,4 @@
+pub mod Cuts
+pub mod Names
+pub mod Numerals
+pub mod OneLine
