@@ -6,7 +6,6 @@ ghost use Rattle.vl_catalog.specs.Build.{column_vindexes_of, defined_table, is_d
 use crate::column::Column;
 use crate::column_vindex::ColumnVindex;
 use crate::columns::{column_numbers, one_column};
-use crate::duplicate::duplicates;
 use crate::keyspace_parts::KeyspaceParts;
 use crate::keyspace_vschema::KeyspaceVschema;
 use crate::primary::Primary;
@@ -14,8 +13,9 @@ use crate::table::Table;
 use crate::table_def::TableDef;
 use crate::table_vschema::TableVschema;
 use crate::vindex_def::{VindexDef, VindexKind};
-use sqlite_items::Items;
 use std::alloc::{AllocError, Global};
+use vl_values::items::Items;
+use vl_values::try_copy::TryCopy;
 
 fn vschema_of<'a>(tables: &'a [TableVschema], name: &[u8]) -> Option<&'a TableVschema>
     ensures { option_copied result ≡ vschema_of tables.now name.now }
@@ -81,7 +81,7 @@ fn column_vindexes_of(
 {
     match table {
         None => Ok(Items::new(alloc)),
-        Some(table) => duplicates(alloc, table.column_vindexes.as_slice()),
+        Some(table) => table.column_vindexes.try_copy(alloc),
     }
 }
 
@@ -108,7 +108,7 @@ fn defined_table(
         keyspace,
         in_schema: true,
         in_vschema,
-        columns: duplicates(alloc, def.columns.as_slice())?,
+        columns: def.columns.try_copy(alloc)?,
         key: Items::from_vec(key),
         primary,
         column_vindexes,
@@ -132,7 +132,7 @@ fn undefined_table(
         columns: Items::new(alloc),
         key: Items::new(alloc),
         primary: None,
-        column_vindexes: duplicates(alloc, table.column_vindexes.as_slice())?,
+        column_vindexes: table.column_vindexes.try_copy(alloc)?,
         lookups: Items::new(alloc),
     })
 }

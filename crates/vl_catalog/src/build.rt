@@ -13,8 +13,8 @@ use crate::lookup_ids::{id_of, lookup_ids, number_of, vindexes_in};
 use crate::lookups::{lookups, numbered, push_some};
 use crate::table::Table;
 use crate::vindex_def::VindexDef;
-use sqlite_items::Items;
 use std::alloc::{AllocError, Global};
+use vl_values::items::Items;
 use vl_vindex::Ring;
 
 // The number of the lookup that a column vindex names.

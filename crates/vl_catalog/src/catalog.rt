@@ -1,6 +1,6 @@
 use crate::build::catalog_of;
 use crate::catalog_a::catalog_a;
-use crate::duplicate::duplicates;
+use crate::copies::rings_of;
 use crate::keyspace::Keyspace;
 use crate::keyspace_parts::KeyspaceParts;
 use crate::ksid::Ksid;
@@ -8,8 +8,9 @@ use crate::lookup::Lookup;
 use crate::place::{ksid_at, place_by, shards_counted};
 use crate::table::Table;
 use crate::{ShardNo, TableNo};
-use sqlite_items::Items;
 use std::alloc::{AllocError, Global};
+use vl_values::items::Items;
+use vl_values::try_copy::TryCopy;
 use vl_values::value::Value;
 use vl_vindex::Ring;
 
@@ -49,10 +50,10 @@ impl Catalog {
         ensures { IfOk result (λ catalog. catalog ≡ self.now) }
     {
         Ok(Catalog {
-            keyspaces: duplicates(alloc, self.keyspaces.as_slice())?,
-            tables: duplicates(alloc, self.tables.as_slice())?,
-            lookups: duplicates(alloc, self.lookups.as_slice())?,
-            rings: duplicates(alloc, self.rings.as_slice())?,
+            keyspaces: self.keyspaces.try_copy(alloc)?,
+            tables: self.tables.try_copy(alloc)?,
+            lookups: self.lookups.try_copy(alloc)?,
+            rings: rings_of(alloc, self.rings.as_slice())?,
         })
     }
 

@@ -12,10 +12,10 @@ use crate::table_def::TableDef;
 use crate::table_vschema::TableVschema;
 use crate::vindex::Vindex;
 use crate::vindex_def::{VindexDef, VindexKind};
-use sqlite_items::Items;
 use std::alloc::{AllocError, Global};
 use vl_values::bytes::Bytes;
 use vl_values::col_type::ColType;
+use vl_values::items::Items;
 use vl_vindex::{KeyRange, Ring};
 
 fn low_half() -> KeyRange

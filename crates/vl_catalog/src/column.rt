@@ -1,7 +1,7 @@
-use crate::duplicate::Duplicate;
 use std::alloc::{AllocError, Global};
 use vl_values::bytes::Bytes;
 use vl_values::col_type::ColType;
+use vl_values::try_copy::TryCopy;
 
 /// A column of a table.
 #[derive(Drop)]
@@ -12,8 +12,8 @@ pub struct Column {
     pub nullable: bool,
 }
 
-impl Duplicate for Column {
-    fn duplicate(&self, alloc: Global) -> Result<Column, AllocError> {
+impl TryCopy for Column {
+    fn try_copy(&self, alloc: Global) -> Result<Column, AllocError> {
         Ok(Column {
             name: self.name.copy(alloc)?,
             ty: self.ty,

@@ -1,7 +1,7 @@
-use crate::duplicate::{Duplicate, duplicates};
-use sqlite_items::Items;
 use std::alloc::{AllocError, Global};
 use vl_values::bytes::Bytes;
+use vl_values::items::Items;
+use vl_values::try_copy::TryCopy;
 
 /// A column vindex of a table, as the VSchema has it: the names of its columns, and of its vindex.
 #[derive(Drop)]
@@ -10,10 +10,10 @@ pub struct ColumnVindex {
     pub vindex: Bytes,
 }
 
-impl Duplicate for ColumnVindex {
-    fn duplicate(&self, alloc: Global) -> Result<ColumnVindex, AllocError> {
+impl TryCopy for ColumnVindex {
+    fn try_copy(&self, alloc: Global) -> Result<ColumnVindex, AllocError> {
         Ok(ColumnVindex {
-            columns: duplicates(alloc, self.columns.as_slice())?,
+            columns: self.columns.try_copy(alloc)?,
             vindex: self.vindex.copy(alloc)?,
         })
     }

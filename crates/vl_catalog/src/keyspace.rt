@@ -1,6 +1,6 @@
-use crate::duplicate::Duplicate;
 use std::alloc::{AllocError, Global};
 use vl_values::bytes::Bytes;
+use vl_values::try_copy::TryCopy;
 
 /// A keyspace of a catalog. Its ring has the same place in the catalog's list of rings.
 #[derive(Drop)]
@@ -9,8 +9,8 @@ pub struct Keyspace {
     pub sharded: bool,
 }
 
-impl Duplicate for Keyspace {
-    fn duplicate(&self, alloc: Global) -> Result<Keyspace, AllocError> {
+impl TryCopy for Keyspace {
+    fn try_copy(&self, alloc: Global) -> Result<Keyspace, AllocError> {
         Ok(Keyspace {
             name: self.name.copy(alloc)?,
             sharded: self.sharded,

@@ -1,7 +1,7 @@
 use crate::keyspace_vschema::KeyspaceVschema;
 use crate::table_def::TableDef;
-use sqlite_items::Items;
 use vl_values::bytes::Bytes;
+use vl_values::items::Items;
 use vl_vindex::Ring;
 
 /// What the files of a catalog say of one keyspace.

@@ -1,7 +1,7 @@
 use crate::table_vschema::TableVschema;
 use crate::vindex_def::VindexDef;
-use sqlite_items::Items;
 use vl_values::bytes::Bytes;
+use vl_values::items::Items;
 
 /// What a keyspace's VSchema file says. Its reader lists vindexes and tables by the bytes of their
 /// names, each name once.

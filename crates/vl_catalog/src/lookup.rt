@@ -1,8 +1,9 @@
 use crate::TableNo;
-use crate::duplicate::Duplicate;
-use sqlite_items::Items;
+use crate::copies::{name_of, numbers_of};
 use std::alloc::{AllocError, Global};
 use vl_values::bytes::Bytes;
+use vl_values::items::Items;
+use vl_values::try_copy::TryCopy;
 
 /// A lookup of a catalog: its table maps the values of the owner's column to keyspace ids. What its
 /// definition names and doesn't exist has no number.
@@ -28,8 +29,8 @@ pub struct Lookup {
     pub to: Option<usize>,
 }
 
-impl Duplicate for Lookup {
-    fn duplicate(&self, alloc: Global) -> Result<Lookup, AllocError> {
+impl TryCopy for Lookup {
+    fn try_copy(&self, alloc: Global) -> Result<Lookup, AllocError> {
         Ok(Lookup {
             name: self.name.copy(alloc)?,
             keyspace: self.keyspace,
@@ -40,9 +41,9 @@ impl Duplicate for Lookup {
             owner: self.owner,
             owner_name: self.owner_name.copy(alloc)?,
             table: self.table,
-            table_keyspace: self.table_keyspace.duplicate(alloc)?,
+            table_keyspace: name_of(alloc, &self.table_keyspace)?,
             table_name: self.table_name.copy(alloc)?,
-            from: Items::from_slice(alloc, self.from.as_slice())?,
+            from: numbers_of(alloc, self.from.as_slice())?,
             to: self.to,
         })
     }

@@ -1,5 +1,5 @@
-use sqlite_items::Items;
 use vl_values::bytes::Bytes;
+use vl_values::items::Items;
 
 /// A lookup vindex of a keyspace's VSchema: a table maps values of the owner's column to keyspace ids.
 #[derive(Drop)]

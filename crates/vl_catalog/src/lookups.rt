@@ -7,7 +7,7 @@ use crate::TableNo;
 use crate::column::Column;
 use crate::column_vindex::ColumnVindex;
 use crate::columns::{column_number, column_numbers, one_column};
-use crate::duplicate::Duplicate;
+use crate::copies::name_of;
 use crate::keyspace_parts::KeyspaceParts;
 use crate::lookup::Lookup;
 use crate::lookup_def::LookupDef;
@@ -15,9 +15,9 @@ use crate::lookup_id::LookupId;
 use crate::lookup_ids::vindexes_in;
 use crate::table::Table;
 use crate::vindex_def::{VindexDef, VindexKind};
-use sqlite_items::Items;
 use std::alloc::{AllocError, Global};
 use vl_values::bytes::Bytes;
+use vl_values::items::Items;
 
 fn is_table(table: &Table, keyspace: usize, name: &[u8]) -> bool
     ensures { result ≡ is_table keyspace name.now table.now }
@@ -271,7 +271,7 @@ fn lookup_by(
         owner: numbered(owner)?,
         owner_name: def.owner.copy(alloc)?,
         table: numbered(table)?,
-        table_keyspace: def.keyspace.duplicate(alloc)?,
+        table_keyspace: name_of(alloc, &def.keyspace)?,
         table_name: def.table.copy(alloc)?,
         from: Items::from_vec(from),
         to: column_number(columns, def.to.as_slice()),

@@ -1,7 +1,7 @@
 use crate::change::Change;
-use sqlite_items::Items;
 use vl_values::TxNo;
 use vl_values::group::Group;
+use vl_values::items::Items;
 
 /// What one shard session of a transaction changed on its shard, as it commits.
 #[derive(Drop)]

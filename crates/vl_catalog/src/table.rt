@@ -1,11 +1,12 @@
 use crate::LookupNo;
 use crate::column::Column;
 use crate::column_vindex::ColumnVindex;
-use crate::duplicate::{Duplicate, duplicates};
+use crate::copies::numbers_of;
 use crate::primary::Primary;
-use sqlite_items::Items;
 use std::alloc::{AllocError, Global};
 use vl_values::bytes::Bytes;
+use vl_values::items::Items;
+use vl_values::try_copy::TryCopy;
 
 /// A table of a catalog. Its columns are numbered by their places, counted from 0.
 #[derive(Drop)]
@@ -28,18 +29,18 @@ pub struct Table {
     pub lookups: Items<LookupNo>,
 }
 
-impl Duplicate for Table {
-    fn duplicate(&self, alloc: Global) -> Result<Table, AllocError> {
+impl TryCopy for Table {
+    fn try_copy(&self, alloc: Global) -> Result<Table, AllocError> {
         Ok(Table {
             name: self.name.copy(alloc)?,
             keyspace: self.keyspace,
             in_schema: self.in_schema,
             in_vschema: self.in_vschema,
-            columns: duplicates(alloc, self.columns.as_slice())?,
-            key: Items::from_slice(alloc, self.key.as_slice())?,
+            columns: self.columns.try_copy(alloc)?,
+            key: numbers_of(alloc, self.key.as_slice())?,
             primary: self.primary,
-            column_vindexes: duplicates(alloc, self.column_vindexes.as_slice())?,
-            lookups: Items::from_slice(alloc, self.lookups.as_slice())?,
+            column_vindexes: self.column_vindexes.try_copy(alloc)?,
+            lookups: numbers_of(alloc, self.lookups.as_slice())?,
         })
     }
 }

@@ -1,6 +1,6 @@
 use crate::column_vindex::ColumnVindex;
-use sqlite_items::Items;
 use vl_values::bytes::Bytes;
+use vl_values::items::Items;
 
 /// A table of a keyspace's VSchema.
 #[derive(Drop)]

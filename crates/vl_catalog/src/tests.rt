@@ -5,11 +5,11 @@ use crate::{
     Catalog, ColumnVindex, KeyspaceParts, KeyspaceVschema, Lookup, LookupDef, TableDef,
     TableVschema, Vindex, VindexDef, VindexKind,
 };
-use sqlite_items::Items;
 use std::alloc::{AllocError, Global};
 use std::test::Fail;
 use vl_values::bytes::Bytes;
 use vl_values::col_type::ColType;
+use vl_values::items::Items;
 use vl_values::value::Value;
 use vl_vindex::{KeyRange, Ring};
 
