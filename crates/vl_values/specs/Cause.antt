@@ -2,7 +2,7 @@
 use Rattle.std.specs.Prelude.{ℕ, List, [], ◌∷◌, codes, take}
 use Rattle.std.specs.Fmt.{decimal}
 use Rattle.vl_values.specs.declared.cause.Cause.{Cause}
-use Rattle.vl_values.specs.declared.cause.Cause.TheVariants.{OutOfMemory, TooManySessions, BadHandshake, AccessDenied, UnknownCommand, NotNull, UnknownDatabase, UnknownColumn, Duplicate, Syntax, LostSession, LostRead, DeviceFailed, CommitLost, CommitDevice, Limit, RowCount, UnknownTable, PacketTooLarge, PacketOrder, LockWait, RemovedAndClaimed, ClaimedAndRemoved, NotSupported, OutOfRange, NotNumber, TooLong}
+use Rattle.vl_values.specs.declared.cause.Cause.TheVariants.{OutOfMemory, TooManySessions, BadHandshake, AccessDenied, UnknownCommand, NotNull, UnknownDatabase, UnknownColumn, Duplicate, Syntax, LostSession, LostRead, DeviceFailed, CommitLost, CommitDevice, Limit, RowCount, UnknownTable, PacketTooLarge, PacketOrder, LockWait, RemovedAndClaimed, ClaimedAndRemoved, NotSupported, ParameterType, UnknownStatement, BrokenExecute, OutOfRange, NotNumber, TooLong}
 use Rattle.vl_values.specs.Group.{group_name}
 use Rattle.vl_values.specs.Limit.{limit_name}
 use Rattle.vl_values.specs.LostWhy.{why_text}
@@ -34,6 +34,9 @@ error_code (LockWait _ _ _ _) = 1205
 error_code (RemovedAndClaimed _ _) = 1205
 error_code (ClaimedAndRemoved _ _) = 1205
 error_code (NotSupported _) = 1235
+error_code (ParameterType _) = 1235
+error_code (UnknownStatement _) = 1243
+error_code (BrokenExecute _) = 1105
 error_code (OutOfRange _) = 1264
 error_code (NotNumber _) = 1366
 error_code (TooLong _ _) = 1406
@@ -63,6 +66,9 @@ sql_state (LockWait _ _ _ _) = codes "HY000"
 sql_state (RemovedAndClaimed _ _) = codes "HY000"
 sql_state (ClaimedAndRemoved _ _) = codes "HY000"
 sql_state (NotSupported _) = codes "42000"
+sql_state (ParameterType _) = codes "42000"
+sql_state (UnknownStatement _) = codes "HY000"
+sql_state (BrokenExecute _) = codes "HY000"
 sql_state (OutOfRange _) = codes "22003"
 sql_state (NotNumber _) = codes "HY000"
 sql_state (TooLong _ _) = codes "22001"
@@ -93,6 +99,9 @@ message (LockWait limit table key holder) = codes "Lock wait limit " ∷ decimal
 message (RemovedAndClaimed value lookup) = codes "Value '" ∷ value ∷ codes "' of " ∷ lookup ∷ codes " is removed and claimed in one transaction" ∷ []
 message (ClaimedAndRemoved value lookup) = codes "Value '" ∷ value ∷ codes "' of " ∷ lookup ∷ codes " is claimed and removed in one transaction" ∷ []
 message (NotSupported what) = codes "Not supported: " ∷ unsupported_name what ∷ []
+message (ParameterType code) = codes "Not supported: parameter type " ∷ decimal code ∷ []
+message (UnknownStatement id) = codes "Unknown prepared statement " ∷ decimal id ∷ []
+message (BrokenExecute at) = codes "Broken execute payload at byte " ∷ decimal at ∷ []
 message (OutOfRange column) = codes "Value of '" ∷ column ∷ codes "' is out of range" ∷ []
 message (NotNumber column) = codes "Value of '" ∷ column ∷ codes "' is not a number" ∷ []
 message (TooLong column most) = codes "Value of '" ∷ column ∷ codes "' is longer than " ∷ decimal most ∷ codes " bytes" ∷ []

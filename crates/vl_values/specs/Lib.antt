@@ -1,5 +1,6 @@
 pub mod Among
 pub mod Cause
+pub mod Fit
 pub mod Group
 pub mod Key
 pub mod Keyed

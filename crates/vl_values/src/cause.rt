@@ -104,6 +104,17 @@ pub enum Cause {
     NotSupported {
         what: Unsupported,
     },
+    /// A parameter of a prepared statement has a type of this code.
+    ParameterType {
+        code: u8,
+    },
+    UnknownStatement {
+        id: u32,
+    },
+    /// The place is counted in bytes of the payload.
+    BrokenExecute {
+        at: u64,
+    },
     OutOfRange {
         column: Bytes,
     },
@@ -149,6 +160,9 @@ impl Cause {
             Cause::RemovedAndClaimed { .. } => 1205,
             Cause::ClaimedAndRemoved { .. } => 1205,
             Cause::NotSupported { .. } => 1235,
+            Cause::ParameterType { .. } => 1235,
+            Cause::UnknownStatement { .. } => 1243,
+            Cause::BrokenExecute { .. } => 1105,
             Cause::OutOfRange { .. } => 1264,
             Cause::NotNumber { .. } => 1366,
             Cause::TooLong { .. } => 1406,
@@ -184,6 +198,9 @@ impl Cause {
             Cause::RemovedAndClaimed { .. } => b"HY000",
             Cause::ClaimedAndRemoved { .. } => b"HY000",
             Cause::NotSupported { .. } => b"42000",
+            Cause::ParameterType { .. } => b"42000",
+            Cause::UnknownStatement { .. } => b"HY000",
+            Cause::BrokenExecute { .. } => b"HY000",
             Cause::OutOfRange { .. } => b"22003",
             Cause::NotNumber { .. } => b"HY000",
             Cause::TooLong { .. } => b"22001",
@@ -362,6 +379,18 @@ impl Cause {
             Cause::NotSupported { what } => joined(&[
                 Piece::Text(b"Not supported: "),
                 Piece::Text(what.name()),
+            ]),
+            Cause::ParameterType { code } => joined(&[
+                Piece::Text(b"Not supported: parameter type "),
+                Piece::Number(u64::from(*code)),
+            ]),
+            Cause::UnknownStatement { id } => joined(&[
+                Piece::Text(b"Unknown prepared statement "),
+                Piece::Number(u64::from(*id)),
+            ]),
+            Cause::BrokenExecute { at } => joined(&[
+                Piece::Text(b"Broken execute payload at byte "),
+                Piece::Number(*at),
             ]),
             Cause::OutOfRange { column } => joined(&[
                 Piece::Text(b"Value of '"),

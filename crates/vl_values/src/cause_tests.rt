@@ -287,7 +287,7 @@ fn commits_that_failed(rt: HostRuntime) {
 
 #[test]
 fn limits_that_are_reached(rt: HostRuntime) {
-    let limits: [(Limit, u64, &[u8]); 6] = [
+    let limits: [(Limit, u64, &[u8]); 10] = [
         (Limit::Changes, 10000, b"Limit of changes reached: 10000"),
         (
             Limit::RecordBytes,
@@ -314,6 +314,26 @@ fn limits_that_are_reached(rt: HostRuntime) {
             4611686018427387903,
             b"Limit of transactions reached: 4611686018427387903",
         ),
+        (
+            Limit::Events,
+            4611686018427387903,
+            b"Limit of events reached: 4611686018427387903",
+        ),
+        (
+            Limit::Parameters,
+            65535,
+            b"Limit of parameters reached: 65535",
+        ),
+        (
+            Limit::PreparedStatements,
+            1000,
+            b"Limit of prepared statements reached: 1000",
+        ),
+        (
+            Limit::SequenceNumbers,
+            9223372036854775807,
+            b"Limit of sequence numbers reached: 9223372036854775807",
+        ),
     ];
     for (what, count, text) in limits {
         assert_lost(&rt, Cause::Limit { what, count }, text);
@@ -322,7 +342,7 @@ fn limits_that_are_reached(rt: HostRuntime) {
 
 #[test]
 fn statements_that_are_not_supported(rt: HostRuntime) {
-    let statements: [(Unsupported, &[u8]); 4] = [
+    let statements: [(Unsupported, &[u8]); 8] = [
         (
             Unsupported::WriteToLookupTable,
             b"Not supported: write to a lookup table",
@@ -339,10 +359,48 @@ fn statements_that_are_not_supported(rt: HostRuntime) {
             Unsupported::CountWithMore,
             b"Not supported: COUNT(*) with more",
         ),
+        (Unsupported::Lookups, b"Not supported: lookups"),
+        (Unsupported::Cursor, b"Not supported: cursor"),
+        (
+            Unsupported::WriteToSequenceTable,
+            b"Not supported: write to a sequence table",
+        ),
+        (
+            Unsupported::LockOnSequenceTable,
+            b"Not supported: lock on a sequence table",
+        ),
     ];
     for (what, text) in statements {
         assert_told(&rt, Cause::NotSupported { what }, 1235, b"42000", text);
     }
+}
+
+#[test]
+fn refusals_of_prepared_statements(rt: HostRuntime) {
+    let unknown = Cause::UnknownStatement { id: 9 };
+    assert_told(
+        &rt,
+        unknown,
+        1243,
+        b"HY000",
+        b"Unknown prepared statement 9",
+    );
+    let code = 16;
+    assert_told(
+        &rt,
+        Cause::ParameterType { code },
+        1235,
+        b"42000",
+        b"Not supported: parameter type 16",
+    );
+    let at = 10;
+    assert_told(
+        &rt,
+        Cause::BrokenExecute { at },
+        1105,
+        b"HY000",
+        b"Broken execute payload at byte 10",
+    );
 }
 
 /// The text for a user whose name is this many times `u`.

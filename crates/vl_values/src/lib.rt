@@ -13,6 +13,10 @@ pub mod cause;
 mod cause_tests;
 pub mod col_type;
 pub mod error_text;
+pub mod fit;
+pub mod fit_fault;
+#[cfg(test)]
+mod fit_tests;
 pub mod group;
 pub mod items;
 pub mod key;
@@ -43,3 +47,6 @@ pub type SessionNo = u32;
 
 /// A transaction's number.
 pub type TxNo = u64;
+
+/// A shard session's number on its shard. No two open shard sessions of a shard have one number.
+pub type ConnNo = u32;

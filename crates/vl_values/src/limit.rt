@@ -16,6 +16,14 @@ pub enum Limit {
     ResultBytes,
     /// Transaction numbers.
     Transactions,
+    /// Event numbers.
+    Events,
+    /// Marks of a prepared statement.
+    Parameters,
+    /// Prepared statements that a session has open.
+    PreparedStatements,
+    /// Numbers of a sequence.
+    SequenceNumbers,
 }
 
 impl Limit {
@@ -30,6 +38,10 @@ impl Limit {
             Limit::ResultRows => b"result rows",
             Limit::ResultBytes => b"result bytes",
             Limit::Transactions => b"transactions",
+            Limit::Events => b"events",
+            Limit::Parameters => b"parameters",
+            Limit::PreparedStatements => b"prepared statements",
+            Limit::SequenceNumbers => b"sequence numbers",
         }
     }
 }

@@ -12,6 +12,14 @@ pub enum Unsupported {
     ChangeOfKeyColumn,
     /// COUNT(*) with ORDER BY, LIMIT or FOR UPDATE.
     CountWithMore,
+    /// UPDATE or DELETE of a table that owns a lookup.
+    Lookups,
+    /// An execution that asks for a cursor.
+    Cursor,
+    /// INSERT, UPDATE or DELETE of a sequence table.
+    WriteToSequenceTable,
+    /// FOR UPDATE of a sequence table.
+    LockOnSequenceTable,
 }
 
 impl Unsupported {
@@ -24,6 +32,10 @@ impl Unsupported {
             Unsupported::LockOnLookupTable => b"lock on a lookup table",
             Unsupported::ChangeOfKeyColumn => b"change of a key column",
             Unsupported::CountWithMore => b"COUNT(*) with more",
+            Unsupported::Lookups => b"lookups",
+            Unsupported::Cursor => b"cursor",
+            Unsupported::WriteToSequenceTable => b"write to a sequence table",
+            Unsupported::LockOnSequenceTable => b"lock on a sequence table",
         }
     }
 }
