@@ -12,6 +12,3 @@ mod place;
 pub mod take;
 #[cfg(test)]
 mod tests;
-
-/// The number of a shard session on its shard.
-pub type ConnNo = u64;

@@ -5,11 +5,11 @@ ghost use Rattle.vl_locks.specs.Locks.{holder_of, other_than, without, with_hold
 ghost use Rattle.vl_locks.specs.Take.{IsFirstHeld, IsFreeFor, Takes, with_all};
 ghost use Rattle.vl_locks.specs.Taking.{IsOldBut, Noted, WereFree};
 
-use crate::ConnNo;
 use crate::place::place_of;
 use crate::take::Take;
 use std::alloc::{AllocError, Global};
 use std::marker::Model;
+use vl_values::ConnNo;
 use vl_values::key::Key;
 
 /// The held keys of a shard, each with the connection that holds it, in key order.

@@ -1,7 +1,7 @@
 ghost use Rattle.std.specs.Prelude.{IfOk, IfErr};
 ghost use Rattle.vl_values.specs.Keyed.{InKeyOrder, IsPlace, IsGap};
 
-use crate::ConnNo;
+use vl_values::ConnNo;
 use vl_values::key::Key;
 
 /// The place of a key among holds in key order, or the place at which it would stand.

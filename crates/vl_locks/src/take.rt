@@ -1,4 +1,4 @@
-use crate::ConnNo;
+use vl_values::ConnNo;
 
 /// The answer to a connection that would take a key.
 #[derive(Clone, Copy, Debug, PartialEq, Eq)]

@@ -1,8 +1,8 @@
-use crate::ConnNo;
 use crate::locks::Locks;
 use crate::take::Take;
 use std::alloc::{AllocError, Global};
 use std::test::Fail;
+use vl_values::ConnNo;
 use vl_values::key::Key;
 use vl_values::row::Row;
 use vl_values::value::Value;

@@ -1,4 +1,4 @@
-use crate::ConnNo;
+use vl_values::ConnNo;
 use vl_values::row::Row;
 
 /// A pending version of a key: the connection that wrote it, and its row, or none for a removal.

@@ -2,8 +2,8 @@ ghost use Rattle.std.specs.Prelude.{◌≡◌, map};
 ghost use Rattle.std.specs.Option.{option_copied};
 ghost use Rattle.vl_rows.specs.Slots.{settled_in, abandoned_in, written_in};
 
-use crate::ConnNo;
 use crate::slot::Slot;
+use vl_values::ConnNo;
 use vl_values::key::Key;
 use vl_values::row::Row;
 

@@ -4,10 +4,10 @@ ghost use Rattle.vl_values.specs.Keyed.{select};
 ghost use Rattle.vl_rows.specs.Matching.{matches_at, row_of};
 ghost use Rattle.vl_rows.specs.Slots.{found_in, is_match_in};
 
-use crate::ConnNo;
 use crate::change::Change;
 use crate::slot::Slot;
 use std::alloc::{AllocError, Global};
+use vl_values::ConnNo;
 use vl_values::key::Key;
 use vl_values::pred::Pred;
 use vl_values::row::Row;

@@ -17,6 +17,3 @@ pub mod rows;
 mod slot;
 #[cfg(test)]
 mod tests;
-
-/// The number of a shard session on its shard.
-pub type ConnNo = u64;

@@ -7,11 +7,12 @@ ghost use Rattle.vl_rows.specs.Versions.{committed_at, pending_at, standing_at, 
 ghost use Rattle.vl_rows.specs.Matching.{IsFound, has_match};
 
 use crate::entry::{abandon_all, settle_all, write_entry};
+use crate::find;
 use crate::place::place_of;
 use crate::slot::Slot;
-use crate::{ConnNo, find};
 use std::alloc::{AllocError, Global};
 use std::marker::Model;
+use vl_values::ConnNo;
 use vl_values::key::Key;
 use vl_values::pred::Pred;
 use vl_values::row::Row;

@@ -3,8 +3,8 @@ ghost use Rattle.std.specs.Option.{option_copied};
 ghost use Rattle.vl_rows.specs.Versions.{other_than, version_for};
 ghost use Rattle.vl_rows.specs.Slots.{empty_slot, is_empty_slot, settled_slot, abandoned_slot, written_slot};
 
-use crate::ConnNo;
 use crate::change::Change;
+use vl_values::ConnNo;
 use vl_values::row::Row;
 
 /// The versions of one key.

@@ -1,7 +1,7 @@
-use crate::ConnNo;
 use crate::rows::Rows;
 use std::alloc::{AllocError, Global};
 use std::test::Fail;
+use vl_values::ConnNo;
 use vl_values::key::Key;
 use vl_values::pred::Pred;
 use vl_values::row::Row;

@@ -11,7 +11,7 @@ use Rattle.vl_port.specs.View.{is_who}
 use Rattle.vl_port.specs.Acting.{opened_at}
 use Rattle.vl_port.proofs.Naming.{is_who-true, is_who-same}
 use Rattle.vl_shard.specs.declared.seat.Seat.{Seat}
-use Rattle.vl_shard.specs.Seats.{is_of, seat_at, name_of, who_at, session_of, IsOnce, IsPlaceFor, IsAbsent, SameSeats, HasSat, left_by}
+use Rattle.vl_shard.specs.Seats.{is_of, seat_at, name_of, who_at, session_of, IsNumbered, IsOnce, IsPlaceFor, IsAbsent, SameSeats, HasSat, left_by}
 
 none_some : {X : Type 0} (x : X) → None ≡ Some x → ⊥
 none_some x h = cc
@@ -275,3 +275,6 @@ read_free seats i d b within is none h = seat_read seats i d within is ∙ none_
 
 pub read_taken : (seats : List (Option Seat)) (i : ℕ) (d : Option Seat) (b : Bool) → i < length seats → d ≡ get_or seats i d → is_some d ≡ not b → b ≡ false → is_some (seat_at seats i) ≡ true
 read_taken seats i d b within is none h = ap is_some (seat_read seats i d within is) ∙ none ∙ ap not h
+
+pub numbered_left : (who : Who) (seats : List (Option Seat)) → IsNumbered seats → IsNumbered (map (left_by who) seats)
+numbered_left who seats numbered = rw (length-map seats (left_by who)) numbered

@@ -1,5 +1,5 @@
 -- The seats of a shard: each is free, or a shard session has it. A seat's place is the session's number.
-use Rattle.std.specs.Prelude.{◌≡◌, ◌<◌, ℕ, Bool, false, List, [], ◌∷◌, length, if◌then◌else◌, slice_index_or}
+use Rattle.std.specs.Prelude.{◌≡◌, ◌<◌, ◌≤◌, ◌^◌, ℕ, Bool, false, List, [], ◌∷◌, length, if◌then◌else◌, slice_index_or}
 use Rattle.std.specs.declared.option.Option.{Option}
 use Rattle.std.specs.declared.option.Option.TheVariants.{Some, None}
 use Rattle.vl_port.specs.declared.opened.Opened.{Opened}
@@ -33,6 +33,10 @@ session_of (Some seat ∷ seats) who = if is_who seat.who who then Some seat.ope
 -- a session has one seat
 abbrev pub IsOnce : List (Option Seat) → Type 0
 IsOnce seats = (i j : ℕ) (a b : Seat) → seat_at seats i ≡ Some a → seat_at seats j ≡ Some b → a.who ≡ b.who → i ≡ j
+
+-- 32 bits can number the seats
+abbrev pub IsNumbered : List (Option Seat) → Type 0
+IsNumbered seats = length seats ≤ 2 ^ 32
 
 -- the seat that a session has, or a free one, where it has none
 pub record IsPlaceFor (seats : List (Option Seat)) (who : Who) (conn : ℕ) : Type 0 where

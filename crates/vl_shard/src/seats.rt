@@ -1,7 +1,7 @@
 ghost use Rattle.std.specs.Prelude.{◌≡◌, ℕ, List, [], IsTrue, IfOk, IfSome, IfNone, map, position, length, Some, ◌<◌, true};
 ghost use Rattle.std.specs.Option.{is_some};
 ghost use Rattle.vl_shard.specs.declared.seat.Seat.{Seat as ASeat};
-ghost use Rattle.vl_shard.specs.Seats.{seat_at, IsAbsent, IsPlaceFor, SameSeats, HasSat, left_by, is_of, IsOnce};
+ghost use Rattle.vl_shard.specs.Seats.{seat_at, IsAbsent, IsPlaceFor, SameSeats, HasSat, left_by, is_of, IsNumbered, IsOnce};
 
 use crate::naming::is_seat_of;
 use crate::seat::Seat;
@@ -9,8 +9,7 @@ use std::alloc::{AllocError, Global};
 use std::marker::Model;
 use vl_port::opened::Opened;
 use vl_port::who::Who;
-use vl_rows::ConnNo;
-use vl_values::SessionNo;
+use vl_values::{ConnNo, SessionNo};
 
 /// The open shard sessions, each in a seat whose place is its number.
 #[derive(Debug, Drop)]
@@ -25,11 +24,11 @@ impl Model for Seats {
 
     ghost Value = { List (Option ASeat) };
 
-    ghost use Rattle.vl_shard.specs.Seats.{IsOnce};
+    ghost use Rattle.vl_shard.specs.Seats.{IsNumbered, IsOnce};
 
     ghost view = { λ s. s.seats.items };
 
-    ghost invariant = { λ s. IsOnce s.seats.items };
+    ghost invariant = { λ s. IsOnce s.seats.items × IsNumbered s.seats.items };
 }
 
 impl Seats {
@@ -47,6 +46,7 @@ impl Seats {
         ensures seated { IfSome result (λ place. (place < length self.now) × (is_of who.now (seat_at self.now place) ≡ true)) }
         ensures absent { IfNone result (IsAbsent self.now who.now) }
         ensures once { IsOnce self.now }
+        ensures numbered { IsNumbered self.now }
     {
         self.seats.iter().position(|seat| is_seat_of(seat, who))
     }
@@ -65,7 +65,8 @@ impl Seats {
 
     // The place of a free seat.
     fn free_place(&self) -> Option<usize>
-        ensures { IfSome result (λ place. (place < length self.now) × (seat_at self.now place ≡ None)) }
+        ensures numbered { IsNumbered self.now }
+        ensures free { IfSome result (λ place. (place < length self.now) × (seat_at self.now place ≡ None)) }
     {
         self.seats.iter().position(|seat| seat.is_none())
     }
@@ -81,9 +82,12 @@ impl Seats {
         if let Some(place) = self.free_place() {
             return Ok(place as ConnNo);
         }
-        let place = self.seats.len();
+        // There is no memory for more sessions than 32 bits can number.
+        let Ok(conn) = ConnNo::try_from(self.seats.len()) else {
+            return Err(AllocError);
+        };
         self.seats.push(None)?;
-        Ok(place as ConnNo)
+        Ok(conn)
     }
 
     /// Gives the session this seat, unless it has it.

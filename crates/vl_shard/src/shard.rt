@@ -28,13 +28,12 @@ use vl_port::answer::Answer;
 use vl_port::committed::Committed;
 use vl_port::found_rows::FoundRows;
 use vl_port::who::Who;
-use vl_rows::ConnNo;
 use vl_rows::rows::Rows;
-use vl_values::SessionNo;
 use vl_values::key::Key;
 use vl_values::pred::Pred;
 use vl_values::row::Row;
 use vl_values::value::Value;
+use vl_values::{ConnNo, SessionNo};
 
 /// A shard without a device: its rows in two versions, its locks and its open shard sessions.
 #[derive(Debug, Drop)]

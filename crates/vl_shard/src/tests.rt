@@ -8,7 +8,6 @@ use vl_port::act::Act;
 use vl_port::answer::Answer;
 use vl_port::port::ShardPort;
 use vl_port::who::Who;
-use vl_values::SessionNo;
 use vl_values::group::Group;
 use vl_values::key::Key;
 use vl_values::pred::Pred;
@@ -16,6 +15,7 @@ use vl_values::row::Row;
 use vl_values::test::Test;
 use vl_values::tests::Tests;
 use vl_values::value::Value;
+use vl_values::{ConnNo, SessionNo};
 
 // Rows of a key and one more number.
 const TABLE: u32 = 3;
