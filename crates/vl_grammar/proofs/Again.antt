@@ -74,7 +74,7 @@ fine_slash (c ∷ bs) = fine_if (c == 42) (comment_at bs) Wrong (λ e. fine_comm
 
 fine_dash : (bs : List ℕ) → FineLexeme (dash_at bs)
 fine_dash [] = tt
-fine_dash (c ∷ bs) = fine_if (is_ascii_digit c) _ _ (λ e. tt) (fine_if (c == 45 && begins 32 bs) _ Wrong (λ e. tt) tt)
+fine_dash (c ∷ bs) = fine_if (is_ascii_digit c) _ _ (λ e. tt) (fine_if (c == 45 && begins 32 bs) _ _ (λ e. tt) tt)
 
 fine_at : (bs : List ℕ) → FineLexeme (at_at bs)
 fine_at [] = tt
@@ -128,6 +128,7 @@ IsFixed (Item.Key k) = (is_plain k ≡ true) × (terminals.is_key k (Word k) ≡
 IsFixed (Item.Sign c) = is_mark c ≡ true
 IsFixed (Item.Digits ds) = (list_all is_ascii_digit ds ≡ true) × (1 ≤ length ds) × (bytes_eq ds ds ≡ true)
 IsFixed (Item.Variable w) = (is_plain w ≡ true) × (str_eq_ignore_ascii_case w w ≡ true)
+IsFixed (Item.Which f) = ⊥
 IsFixed _ = Unit {0}
 
 -- numbers in range
@@ -214,6 +215,7 @@ item_free (Item.Count n) t f h = count_range t n h
 item_free (Item.Digits ds) t f h = tt
 item_free (Item.Variable w) t f h = tt
 item_free (Item.Charset w) t f h = tt
+item_free (Item.Which p) t f h = tt
 
 -- the items that a text spells
 pub spelled_free : (is : List Item) (ts : List Tok) → AllByRecursion IsFine ts → Spells is ts → AllByRecursion IsFree is
@@ -323,6 +325,7 @@ item_again (Item.Digits ds) rest f g (inr calm) = record { token = Number false 
 item_again (Item.Variable w) rest f g (inl o) = absurd (let clash : false ≡ true = o in cc)
 item_again (Item.Variable w) rest f g (inr calm) = record { token = Variable w; is = f.1; cut_again = plain_variable w rest f.0 calm; some = omega arith }
 item_again (Item.Charset w) rest f g (inl o) = absurd (let clash : false ≡ true = o in cc)
+item_again (Item.Which p) rest f g o = absurd f
 item_again (Item.Charset w) rest f g (inr calm) = record { token = Text w; is = refl; cut_again = text_again w rest calm.2; some = omega arith }
 
 -- ---- all items
@@ -352,6 +355,7 @@ laid_calm (i ∷ is) = by i (laid (opens i) is)
     by (Item.Digits ds) rest = (refl, refl, refl)
     by (Item.Variable w) rest = (refl, refl, refl)
     by (Item.Charset w) rest = (refl, refl, refl)
+    by (Item.Which f) rest = (refl, refl, refl)
     by (Item.Sign c) rest = sign (c == 41) (c == 44) refl refl
       where
         sign : (a b : Bool) → (c == 41) ≡ a → (c == 44) ≡ b → IsCalm (space false (Item.Sign c) ++ (c ∷ rest))

@@ -92,17 +92,18 @@ by_eq : (P : ℕ → Type 0) (b c : ℕ) → (b == c) ≡ true → P c → P b
 by_eq P b c e p = subst P (sym (eqb-true b c e)) p
 
 pub mark_again : (c : ℕ) (rest : List ℕ) → is_mark c ≡ true → lexeme_at (c ∷ rest) ≡ Piece (Mark c) rest
-mark_again c rest h = by (c == 40) (c == 41) (c == 42) (c == 44) (c == 46) (c == 59) (c == 61) refl refl refl refl refl refl refl
+mark_again c rest h = by (c == 40) (c == 41) (c == 42) (c == 43) (c == 44) (c == 46) (c == 59) (c == 61) refl refl refl refl refl refl refl refl
   where
-    by : (v1 v2 v3 v4 v5 v6 v7 : Bool) → (c == 40) ≡ v1 → (c == 41) ≡ v2 → (c == 42) ≡ v3 → (c == 44) ≡ v4 → (c == 46) ≡ v5 → (c == 59) ≡ v6 → (c == 61) ≡ v7 → lexeme_at (c ∷ rest) ≡ Piece (Mark c) rest
-    by true v2 v3 v4 v5 v6 v7 e1 e2 e3 e4 e5 e6 e7 = by_eq (λ x. lexeme_at (x ∷ rest) ≡ Piece (Mark x) rest) c 40 e1 refl
-    by false true v3 v4 v5 v6 v7 e1 e2 e3 e4 e5 e6 e7 = by_eq (λ x. lexeme_at (x ∷ rest) ≡ Piece (Mark x) rest) c 41 e2 refl
-    by false false true v4 v5 v6 v7 e1 e2 e3 e4 e5 e6 e7 = by_eq (λ x. lexeme_at (x ∷ rest) ≡ Piece (Mark x) rest) c 42 e3 refl
-    by false false false true v5 v6 v7 e1 e2 e3 e4 e5 e6 e7 = by_eq (λ x. lexeme_at (x ∷ rest) ≡ Piece (Mark x) rest) c 44 e4 refl
-    by false false false false true v6 v7 e1 e2 e3 e4 e5 e6 e7 = by_eq (λ x. lexeme_at (x ∷ rest) ≡ Piece (Mark x) rest) c 46 e5 refl
-    by false false false false false true v7 e1 e2 e3 e4 e5 e6 e7 = by_eq (λ x. lexeme_at (x ∷ rest) ≡ Piece (Mark x) rest) c 59 e6 refl
-    by false false false false false false true e1 e2 e3 e4 e5 e6 e7 = by_eq (λ x. lexeme_at (x ∷ rest) ≡ Piece (Mark x) rest) c 61 e7 refl
-    by false false false false false false false e1 e2 e3 e4 e5 e6 e7 = absurd (let clash : false ≡ true = rw (e1, e2, e3, e4, e5, e6, e7) at h in cc)
+    by : (v1 v2 v3 v4 v5 v6 v7 v8 : Bool) → (c == 40) ≡ v1 → (c == 41) ≡ v2 → (c == 42) ≡ v3 → (c == 43) ≡ v4 → (c == 44) ≡ v5 → (c == 46) ≡ v6 → (c == 59) ≡ v7 → (c == 61) ≡ v8 → lexeme_at (c ∷ rest) ≡ Piece (Mark c) rest
+    by true v2 v3 v4 v5 v6 v7 v8 e1 e2 e3 e4 e5 e6 e7 e8 = by_eq (λ x. lexeme_at (x ∷ rest) ≡ Piece (Mark x) rest) c 40 e1 refl
+    by false true v3 v4 v5 v6 v7 v8 e1 e2 e3 e4 e5 e6 e7 e8 = by_eq (λ x. lexeme_at (x ∷ rest) ≡ Piece (Mark x) rest) c 41 e2 refl
+    by false false true v4 v5 v6 v7 v8 e1 e2 e3 e4 e5 e6 e7 e8 = by_eq (λ x. lexeme_at (x ∷ rest) ≡ Piece (Mark x) rest) c 42 e3 refl
+    by false false false true v5 v6 v7 v8 e1 e2 e3 e4 e5 e6 e7 e8 = by_eq (λ x. lexeme_at (x ∷ rest) ≡ Piece (Mark x) rest) c 43 e4 refl
+    by false false false false true v6 v7 v8 e1 e2 e3 e4 e5 e6 e7 e8 = by_eq (λ x. lexeme_at (x ∷ rest) ≡ Piece (Mark x) rest) c 44 e5 refl
+    by false false false false false true v7 v8 e1 e2 e3 e4 e5 e6 e7 e8 = by_eq (λ x. lexeme_at (x ∷ rest) ≡ Piece (Mark x) rest) c 46 e6 refl
+    by false false false false false false true v8 e1 e2 e3 e4 e5 e6 e7 e8 = by_eq (λ x. lexeme_at (x ∷ rest) ≡ Piece (Mark x) rest) c 59 e7 refl
+    by false false false false false false false true e1 e2 e3 e4 e5 e6 e7 e8 = by_eq (λ x. lexeme_at (x ∷ rest) ≡ Piece (Mark x) rest) c 61 e8 refl
+    by false false false false false false false false e1 e2 e3 e4 e5 e6 e7 e8 = absurd (let clash : false ≡ true = rw (e1, e2, e3, e4, e5, e6, e7, e8) at h in cc)
 
 -- ---- texts in quotes
 

@@ -1,5 +1,5 @@
 -- What a statement is spelled with: a list of items, each of them one token.
-use Rattle.std.specs.Prelude.{◌≡◌, ℕ, true, List, [], ◌∷◌, ◌++◌, Some}
+use Rattle.std.specs.Prelude.{◌≡◌, ℕ, Bool, true, List, [], ◌∷◌, ◌++◌, Some}
 use Rattle.vl_token.specs.Tok.{Tok}
 use Rattle.vl_values.specs.declared.value.Value.{Value}
 use Rattle.vl_grammar.specs.Terminal.{is_key, is_mark, is_variable, is_digits, name_of, literal_of, count_of, charset_of}
@@ -13,6 +13,8 @@ pub data Item : Type 0 where
   Digits : List ℕ → Item
   Variable : List ℕ → Item
   Charset : List ℕ → Item
+  -- any token that passes
+  Which : (Tok → Bool) → Item
 
 -- a token may be several items
 abbrev pub IsA : Item → Tok → Type 0
@@ -24,6 +26,7 @@ IsA (Item.Count n) t = count_of t ≡ Some n
 IsA (Item.Digits ds) t = is_digits ds t ≡ true
 IsA (Item.Variable w) t = is_variable w t ≡ true
 IsA (Item.Charset w) t = charset_of t ≡ Some w
+IsA (Item.Which f) t = f t ≡ true
 
 -- token by token
 abbrev pub Spells : List Item → List Tok → Type 0

@@ -48,6 +48,8 @@ written (Item.Count n) = decimal n
 written (Item.Digits ds) = ds
 written (Item.Variable w) = 64 ∷ 64 ∷ w
 written (Item.Charset w) = in_quotes w
+-- no statement that is written has one
+written (Item.Which f) = []
 
 -- `(`, behind which no space stands
 abbrev pub opens : Item → Bool

@@ -18,9 +18,9 @@ is_start b = is_ascii_alphabetic b || b == 95
 abbrev pub is_part : ℕ → Bool
 is_part b = is_ascii_alphabetic b || is_ascii_digit b || b == 95 || b == 36
 
--- ( ) * , . ; =
+-- ( ) * + , . ; = ; a `-` is one too, where it begins no number and no comment
 abbrev pub is_mark : ℕ → Bool
-is_mark b = b == 40 || b == 41 || b == 42 || b == 44 || b == 46 || b == 59 || b == 61
+is_mark b = b == 40 || b == 41 || b == 42 || b == 43 || b == 44 || b == 46 || b == 59 || b == 61
 
 abbrev pub begins : ℕ → List ℕ → Bool
 begins c [] = false
@@ -117,13 +117,13 @@ hex_at bs =
 abbrev pub run_at : (List ℕ → Tok) → (ℕ → Bool) → List ℕ → Lexeme
 run_at f p bs = Piece (f (take (prefix_len p bs) bs)) (drop (prefix_len p bs) bs)
 
--- `-- ` begins a comment up to the end of the line, and a `-` before a digit a number
+-- `-- ` begins a comment up to the end of the line, and a `-` before a digit a number; else it is a mark
 abbrev pub dash_at : List ℕ → Lexeme
-dash_at [] = Wrong
+dash_at [] = Piece (Mark 45) []
 dash_at (c ∷ bs) =
     if is_ascii_digit c then run_at (Number true) is_ascii_digit (c ∷ bs)
     else if c == 45 && begins 32 bs then Gap (drop (prefix_len (λ b. not (b == 10)) bs) bs)
-    else Wrong
+    else Piece (Mark 45) (c ∷ bs)
 
 abbrev pub slash_at : List ℕ → Lexeme
 slash_at [] = Wrong
@@ -135,6 +135,17 @@ at_at [] = Wrong
 at_at (c ∷ []) = Wrong
 at_at (c ∷ d ∷ bs) = if c == 64 && is_start d then run_at Variable is_part (d ∷ bs) else Wrong
 
+-- what begins with none of the bytes of white space, words and numbers
+abbrev pub symbol_at : ℕ → List ℕ → Lexeme
+symbol_at b bs =
+    if b == 39 || b == 34 then text_at b bs
+    else if b == 96 then quoted_at bs
+    else if b == 45 then dash_at bs
+    else if b == 47 then slash_at bs
+    else if b == 64 then at_at bs
+    else if is_mark b then Piece (Mark b) bs
+    else Wrong
+
 abbrev pub lexeme_at : List ℕ → Lexeme
 lexeme_at [] = Wrong
 lexeme_at (b ∷ bs) =
@@ -142,13 +153,7 @@ lexeme_at (b ∷ bs) =
     else if (b == 120 || b == 88) && begins 39 bs then hex_at (drop 1 bs)
     else if is_start b then run_at Word is_part (b ∷ bs)
     else if is_ascii_digit b then run_at (Number false) is_ascii_digit (b ∷ bs)
-    else if b == 39 || b == 34 then text_at b bs
-    else if b == 96 then quoted_at bs
-    else if b == 45 then dash_at bs
-    else if b == 47 then slash_at bs
-    else if b == 64 then at_at bs
-    else if is_mark b then Piece (Mark b) bs
-    else Wrong
+    else symbol_at b bs
 
 -- ---- texts
 

@@ -22,13 +22,14 @@ pub fn is_part(byte: u8) -> bool
     byte.is_ascii_alphabetic() || byte.is_ascii_digit() || byte == b'_' || byte == b'$'
 }
 
-/// A byte that is a token by itself.
+/// A byte that is a token by itself, wherever it stands.
 pub fn is_mark(byte: u8) -> bool
     ensures { result ≡ is_mark byte }
 {
     byte == b'('
         || byte == b')'
         || byte == b'*'
+        || byte == b'+'
         || byte == b','
         || byte == b'.'
         || byte == b';'

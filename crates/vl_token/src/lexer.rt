@@ -1,7 +1,7 @@
-ghost use Rattle.std.specs.Prelude.{◌≡◌, ℕ, suc, IfOk, MatchOption};
+ghost use Rattle.std.specs.Prelude.{◌≡◌, ℕ, ◌==◌, ◌&&◌, ◌||◌, suc, IfOk, MatchOption};
 ghost use Rattle.std.specs.Char.{is_ascii_digit};
 ghost use Rattle.vl_token.specs.Tok.{Tok as toks};
-ghost use Rattle.vl_token.specs.Lexical.{is_part, run_at, text_at, quoted_at, hex_at, dash_at, slash_at, at_at, lexeme_at, cut_within, tokens_in, lefts_in};
+ghost use Rattle.vl_token.specs.Lexical.{is_part, run_at, text_at, quoted_at, hex_at, dash_at, slash_at, at_at, symbol_at, begins, lexeme_at, cut_within, tokens_in, lefts_in};
 ghost use Rattle.vl_token.specs.View.{lexeme, tokens_of};
 ghost use Rattle.vl_token.specs.Steps.{Ends, GoesOn};
 
@@ -76,7 +76,7 @@ fn dash(bytes: &[u8]) -> Found<'_>
     ensures { lexeme result ≡ dash_at bytes.now }
 {
     match bytes {
-        [] => Found::Wrong,
+        [] => Found::Piece(Token::Mark(b'-'), bytes),
         [c, rest @ ..] => {
             if c.is_ascii_digit() {
                 return number(true, bytes);
@@ -84,7 +84,7 @@ fn dash(bytes: &[u8]) -> Found<'_>
             if *c == b'-' && begins(b' ', rest) {
                 return Found::Gap(&rest[len_before(b'\n', rest)..]);
             }
-            Found::Wrong
+            Found::Piece(Token::Mark(b'-'), bytes)
         }
     }
 }
@@ -115,25 +115,10 @@ fn at_sign(bytes: &[u8]) -> Found<'_>
     }
 }
 
-fn lexeme(bytes: &[u8]) -> Found<'_>
-    ensures { lexeme result ≡ lexeme_at bytes.now }
+// A lexeme that begins with none of the bytes of white space, words and numbers.
+fn symbol(b: u8, rest: &[u8]) -> Found<'_>
+    ensures { lexeme result ≡ symbol_at b rest.now }
 {
-    let [b, rest @ ..] = bytes else {
-        return Found::Wrong;
-    };
-    let b = *b;
-    if is_blank(b) {
-        return Found::Gap(rest);
-    }
-    if (b == b'x' || b == b'X') && begins(b'\'', rest) {
-        return hex(&rest[1..]);
-    }
-    if is_start(b) {
-        return word(bytes);
-    }
-    if b.is_ascii_digit() {
-        return number(false, bytes);
-    }
     if b == b'\'' || b == b'"' {
         return text(b, rest);
     }
@@ -153,6 +138,35 @@ fn lexeme(bytes: &[u8]) -> Found<'_>
         return Found::Piece(Token::Mark(b), rest);
     }
     Found::Wrong
+}
+
+// Whether `x'` begins here.
+fn is_hex(b: u8, rest: &[u8]) -> bool
+    ensures { result ≡ ((b == 120 || b == 88) && begins 39 rest.now) }
+{
+    (b == b'x' || b == b'X') && begins(b'\'', rest)
+}
+
+fn lexeme(bytes: &[u8]) -> Found<'_>
+    ensures { lexeme result ≡ lexeme_at bytes.now }
+{
+    let [b, rest @ ..] = bytes else {
+        return Found::Wrong;
+    };
+    let b = *b;
+    if is_blank(b) {
+        return Found::Gap(rest);
+    }
+    if is_hex(b, rest) {
+        return hex(&rest[1..]);
+    }
+    if is_start(b) {
+        return word(bytes);
+    }
+    if b.is_ascii_digit() {
+        return number(false, bytes);
+    }
+    symbol(b, rest)
 }
 
 /// The tokens of a text, and how many bytes are left where each begins.

@@ -13,7 +13,7 @@ pub enum Token<'a> {
     Number(bool, &'a [u8]),
     /// The word behind `@@`.
     Variable(&'a [u8]),
-    /// One of `( ) , . ; = *`.
+    /// One of `( ) , . ; = * +`, or a `-` that begins no number and no comment.
     Mark(u8),
     /// No token begins here.
     Bad,
