@@ -41,6 +41,45 @@ fn check_places(rt: &(impl Abort + AllocGlobal), cases: &[(&[u8], usize)]) -> Re
     Ok(())
 }
 
+// Cuts a text behind each byte, and compares with the mark under that byte:
+//   `.`  a statement
+//   `+`  it ends too early: the place is the length
+//   `<`  the last token was cut, and no statement goes on with what is left of it: the place is its
+//        first byte, where this run of marks begins
+//   `^`  the same of a token that was whole at a shorter cut, as 'it' in 'it''s': its first byte is
+//        where the run before began
+fn check_prefix_marks(
+    rt: &(impl Abort + AllocGlobal),
+    text: &[u8],
+    marks: &[u8],
+) -> Result<(), Fail> {
+    assert_eq!(rt; marks.len(), text.len());
+    let mut run = 0;
+    let mut within = false;
+    for i in 0..text.len() {
+        let mark = marks.get(i);
+        let cut = matches!(mark, Some(b'<'));
+        if cut && !within {
+            run = i;
+        }
+        within = cut;
+        let at = match mark {
+            Some(b'.') => LEFT_OUT,
+            Some(b'+') => i + 1,
+            _ => run,
+        };
+        assert_eq!(rt; place(rt.alloc(), &text[..i + 1])?, at, "behind byte {i}");
+    }
+    Ok(())
+}
+
+fn check_prefixes(rt: &(impl Abort + AllocGlobal), cases: &[(&[u8], &[u8])]) -> Result<(), Fail> {
+    for (text, marks) in cases {
+        check_prefix_marks(rt, text, marks)?;
+    }
+    Ok(())
+}
+
 fn check_prints(rt: &(impl Abort + AllocGlobal), cases: &[(&[u8], &[u8])]) -> Result<(), Fail> {
     for (text, printed) in cases {
         let stmt = parse(rt.alloc(), text)?;
@@ -300,23 +339,78 @@ fn lists_end_at_their_limits(rt: HostRuntime) -> Result<(), Fail> {
 }
 
 #[test]
-fn a_text_that_ends_too_early_is_named_by_its_length(rt: HostRuntime) -> Result<(), Fail> {
-    // Up to where the last keyword stands alone each cut behind a space leaves a text that could go on.
-    let cases: [&[u8]; 6] = [
-        b"INSERT INTO t1 ( id , u ) VALUES ( 1 ,",
-        b"SELECT id , u FROM",
-        b"UPDATE t1 SET u =",
-        b"DELETE FROM",
-        b"SET AUTOCOMMIT =",
-        b"SELECT COUNT ( * ) FROM",
-    ];
-    for text in cases {
-        for (i, byte) in text.iter().enumerate() {
-            if *byte == b' ' {
-                assert_eq!(rt; place(rt.alloc(), &text[..i])?, i);
-            }
-        }
-        assert_eq!(rt; place(rt.alloc(), text)?, text.len());
-    }
-    Ok(())
+fn each_prefix_of_an_insert_update_and_delete(rt: HostRuntime) -> Result<(), Fail> {
+    check_prefixes(
+        &rt,
+        &[
+            (
+                b"INSERT INTO `a b`.t1 (id, u, `v w`) VALUES (-5, 'it''s', NULL), (007, 'a b', x'4a4B');",
+                b"<<<<<++<<<++<<<<+++++++++++++<<<<+++<<<<<+++<+++<<<+^^+++<<<+.++++++++<<<<+++<<<<<<+..",
+            ),
+            (
+                b"INSERT/*rows*/INTO t1(id)VALUES(18446744073709551615),(-9223372036854775808) -- both ends",
+                b"<<<<<+<<<<<<<+<<<++++++++<<<<<++++++++++++++++++++++.++<+++++++++++++++++++..<<..........",
+            ),
+            (
+                b"UPDATE set SET set=1, id = 'x y', v = x'' WHERE in IN (-2)",
+                b"<<<<<++++++<<++++++.+++++++<<<<.++++++<<..<<<<+++++<+++<+.",
+            ),
+            (
+                b"DELETE FROM from WHERE where = -5 AND and = \"it's\"",
+                b"<<<<<++<<<++.....<<<<++++++++++<..<<++++++++<<<<<.",
+            ),
+        ],
+    )
+}
+
+#[test]
+fn each_prefix_of_a_select(rt: HostRuntime) -> Result<(), Fail> {
+    check_prefixes(
+        &rt,
+        &[
+            (
+                b"SELECT id, u, count FROM db.t1 WHERE u IN (1, 'a') AND id = NULL",
+                b"<<<<<+++++++++++++++<<<++..+...<<<<++++<++++++<<+..<<+++++++<<<.",
+            ),
+            (
+                b"SELECT * FROM t1 ORDER BY id DESC, u ASC, v LIMIT 10 FOR UPDATE -- c\n;",
+                b"<<<<<++++<<<++...<<<<++<++...<<<.++..<<.++..<<<<++...<<++<<<<<..<<....",
+            ),
+            (
+                b"SELECT COUNT ( * ) FROM `t 1` WHERE u = 'a b' FOR UPDATE",
+                b"<<<<<++++++++++++++<<<++<<<<..<<<<++++++<<<<..<<++<<<<<.",
+            ),
+            (
+                b"SELECT @@version_comment LIMIT 1 /* asked first by many clients */ ;",
+                b"<<<<<++<<<<<<<<<<<<<<<<++<<<<++..<<<<<<<<<<<<<<<<<<<<<<<<<<<<<<<<...",
+            ),
+            (
+                b"SELECT DATABASE/* of the session */( ) -- none is NULL",
+                b"<<<<<++++++++++<<<<<<<<<<<<<<<<<<<+++..<<.............",
+            ),
+        ],
+    )
+}
+
+#[test]
+fn each_prefix_of_other_statements(rt: HostRuntime) -> Result<(), Fail> {
+    check_prefixes(
+        &rt,
+        &[
+            (
+                b"SET /* each statement by itself */ autocommit = 1 ; /* from now on */",
+                b"<<++<<<<<<<<<<<<<<<<<<<<<<<<<<<<<++<<<<<<<<<++++....<<<<<<<<<<<<<<<<.",
+            ),
+            (b"BEGIN;", b"<<<<.."),
+            (b"START TRANSACTION ", b"<<<<++<<<<<<<<<<.."),
+            (b"COMMIT ;", b"<<<<<..."),
+            (b"/**/ROLLBACK", b"<<<+<<<<<<<."),
+            (b"SET NAMES utf8mb4", b"<<++<<<<++......."),
+            (b"SET NAMES 'utf8'", b"<<++<<<<++<<<<<."),
+            (b"USE `a b`", b"<<++<<<<."),
+            (b"SHOW TABLES", b"<<<++<<<<<."),
+            (b"SHOW DATABASES", b"<<<++<<<<<<<<."),
+            (b"SHOW WARNINGS;", b"<<<++<<<<<<<.."),
+        ],
+    )
 }
