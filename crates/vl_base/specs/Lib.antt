@@ -1,5 +1,6 @@
 pub mod Adapters
 pub mod Fakes
 pub mod Faults
+pub mod Files
 pub mod Sink
 pub mod Source

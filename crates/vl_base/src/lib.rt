@@ -8,6 +8,11 @@
 
 mod failed;
 mod fault_plan;
+mod file_fault;
+mod files;
+mod folder_files;
+mod memory_file;
+mod memory_files;
 mod memory_sink;
 mod memory_source;
 mod sink;
@@ -18,6 +23,11 @@ mod steady_sink;
 mod steady_source;
 
 pub use failed::Failed;
+pub use file_fault::FileFault;
+pub use files::{FILE_LIMIT, Files};
+pub use folder_files::FolderFiles;
+pub use memory_file::MemoryFile;
+pub use memory_files::MemoryFiles;
 pub use memory_sink::MemorySink;
 pub use memory_source::MemorySource;
 pub use sink::{Sink, write_all};

@@ -1,7 +1,9 @@
 use crate::{
-    Failed, MemorySink, MemorySource, Sink, Source, StdSink, StdSource, SteadySink, SteadySource,
-    write_all,
+    Failed, FileFault, Files, FolderFiles, MemoryFile, MemoryFiles, MemorySink, MemorySource, Sink,
+    Source, StdSink, StdSource, SteadySink, SteadySource, write_all,
 };
+use std::alloc::{AllocError, Global};
+use std::fs;
 use std::test::Fail;
 
 #[test]
@@ -74,5 +76,58 @@ fn the_adapters_carry_the_bytes(rt: HostRuntime) -> Result<(), Fail> {
     let mut written = Vec::new(rt.alloc());
     assert_eq!(rt; write_all(&mut StdSink::new(&mut written), b"abc"), Ok(()));
     assert_eq!(rt; written.as_slice(), b"abc".as_slice());
+    Ok(())
+}
+
+// What a load gives: the length of the file, or the fault.
+fn outcome<F: Files>(files: &mut F, name: &str) -> Result<usize, FileFault> {
+    match files.load(name) {
+        Ok(bytes) => Ok(bytes.len()),
+        Err(fault) => Err(fault),
+    }
+}
+
+fn zeros(alloc: Global, len: usize) -> Result<Vec<u8>, AllocError> {
+    let mut bytes = Vec::with_capacity(alloc, len)?;
+    bytes.resize(len, 0)?;
+    Ok(bytes)
+}
+
+#[test]
+fn files_in_memory_are_loaded_by_name(rt: HostRuntime) -> Result<(), Fail> {
+    let alloc = rt.alloc();
+    let mut list = Vec::new(alloc);
+    list.push(MemoryFile::new(b"a".to_vec(alloc)?, zeros(alloc, 3)?))?;
+    list.push(MemoryFile::new(b"a".to_vec(alloc)?, zeros(alloc, 4)?))?;
+    list.push(MemoryFile::new(b"most".to_vec(alloc)?, zeros(alloc, 1_048_576)?))?;
+    list.push(MemoryFile::new(b"more".to_vec(alloc)?, zeros(alloc, 1_048_577)?))?;
+    let mut files = MemoryFiles::new(alloc, list, [2].to_vec(alloc)?);
+    assert_eq!(rt; outcome(&mut files, "a"), Ok(3));
+    assert_eq!(rt; outcome(&mut files, "a"), Err(FileFault::Failed));
+    assert_eq!(rt; outcome(&mut files, "most"), Ok(1_048_576));
+    assert_eq!(rt; outcome(&mut files, "more"), Err(FileFault::TooLong));
+    assert_eq!(rt; outcome(&mut files, "b"), Err(FileFault::Failed));
+    assert_eq!(rt; files.fault_count(), 2);
+    Ok(())
+}
+
+#[test]
+fn files_of_the_system_are_loaded_by_path(rt: HostRuntime) -> Result<(), Fail> {
+    let alloc = rt.alloc();
+    let name = "vl_base_test_file";
+    let mut files = FolderFiles::new(&rt, alloc);
+    for (len, want) in [
+        (0, Ok(0)),
+        (10_000, Ok(10_000)),
+        (1_048_576, Ok(1_048_576)),
+        (1_048_577, Err(FileFault::TooLong)),
+    ] {
+        let bytes = zeros(alloc, len)?;
+        assert!(rt; fs::write(&rt, name, bytes.as_slice()).is_ok());
+        assert_eq!(rt; outcome(&mut files, name), want);
+    }
+    assert!(rt; fs::remove_file(&rt, name).is_ok());
+    assert_eq!(rt; outcome(&mut files, name), Err(FileFault::Failed));
+    assert_eq!(rt; outcome(&mut files, "/"), Err(FileFault::Failed));
     Ok(())
 }
