@@ -1,0 +1,4 @@
+pub mod LeastPath
+pub mod NameSteps
+pub mod Ordering
+pub mod Viewing

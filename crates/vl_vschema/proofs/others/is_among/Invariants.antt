@@ -1,0 +1,9 @@
+use Rattle.std.proofs.Common.{◌≡◌, map, drop}
+use Rattle.std.specs.List.{list_any}
+use Rattle.std.specs.Str.{bytes_eq}
+use Rattle.vl_vschema.proofs.others.is_among.Given as goal
+
+-- the names before are other ones
+abbrev pub invariant-loop-known : goal.invariant-loop-known
+invariant-loop-known l =
+    list_any (bytes_eq l.name) (map (λ n. n.now) (drop l.known-index l.names)) ≡ list_any (bytes_eq l.name) (map (λ n. n.now) l.fn.names)
