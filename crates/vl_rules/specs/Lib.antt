@@ -1,0 +1,6 @@
+pub mod ColumnVindexes
+pub mod Kept
+pub mod Limits
+pub mod Lookups
+pub mod Order
+pub mod Tables
