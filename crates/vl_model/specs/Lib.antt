@@ -5,3 +5,7 @@ pub mod ScriptLine
 pub mod Sound
 pub mod Steps
 pub mod Tables
+pub mod Taken
+pub mod Columns
+pub mod Refusals
+pub mod Routes

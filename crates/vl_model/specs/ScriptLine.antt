@@ -1,8 +1,8 @@
 -- The lines of a script.
-use Rattle.std.specs.Prelude.{◌≡◌, ℕ, ◌+◌, ◌*◌, ◌-◌, ◌^◌, ◌<◌, ◌≤◌, List, [], ◌∷◌, ◌++◌, codes, length, All}
+use Rattle.std.specs.Prelude.{◌≡◌, ℕ, ◌+◌, ◌*◌, ◌-◌, ◌^◌, ◌<◌, ◌≤◌, List, [], ◌∷◌, ◌++◌, codes, length, All, Some}
 use Rattle.std.specs.Char.{IsAsciiDigit}
-use Rattle.vl_model.specs.declared.stmt.Stmt.{Stmt}
-use Rattle.vl_model.specs.declared.stmt.Stmt.TheVariants.{Insert}
+use Rattle.vl_sql.specs.declared.stmt.Stmt.{Stmt}
+use Rattle.vl_model.specs.Taken.{insert_of}
 
 -- the value of decimal digits, the highest first, behind a number that was read before them
 abbrev pub value_behind : ℕ → List ℕ → ℕ
@@ -17,10 +17,10 @@ pub record IsNumber (digits : List ℕ) (n : ℕ) : Type 0 where
   pub value : value_behind 0 digits ≡ n
   pub fits : n < 2 ^ 64
 
--- `run s1 INSERT INTO t1(id,u) VALUES(N,M)`
+-- `run s1 INSERT INTO t1(id,u) VALUES(N,M)`, and the statement is the INSERT of these two numbers
 abbrev pub Asks : List ℕ → Stmt → Type 0
-Asks line (Insert id u) = (n : List ℕ) × (m : List ℕ)
-    × (line ≡ codes "run s1 INSERT INTO t1(id,u) VALUES(" ++ (n ++ (codes "," ++ (m ++ codes ")")))) × IsNumber n id × IsNumber m u
+Asks line stmt = (id : ℕ) × (u : ℕ) × (n : List ℕ) × (m : List ℕ)
+    × (line ≡ codes "run s1 INSERT INTO t1(id,u) VALUES(" ++ (n ++ (codes "," ++ (m ++ codes ")")))) × IsNumber n id × IsNumber m u × (insert_of stmt ≡ Some (id, u))
 
 -- an empty line, or one that begins with `#`
 pub data IsSkipped : List ℕ → Type 0 where

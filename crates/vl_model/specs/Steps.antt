@@ -1,13 +1,13 @@
 -- ONE table t1(id, u) with the keys id and u, both unique, as a client sees it.
-use Rattle.std.specs.Prelude.{◌≡◌, ℕ, true, false, List, [], ◌∷◌, ◌++◌, codes, filter, Contains, ◌==◌}
+use Rattle.std.specs.Prelude.{◌≡◌, ℕ, true, false, List, [], ◌∷◌, ◌++◌, codes, filter, Contains, Some, ◌==◌}
 use Rattle.std.specs.List.{flat_map}
 use Rattle.std.specs.Fmt.{decimal}
 use Rattle.vl_values.specs.declared.cause.Cause.TheVariants.{Duplicate, OutOfMemory}
 use Rattle.vl_values.specs.declared.reply.Reply.{Reply}
 use Rattle.vl_values.specs.Reply.{refusal, done}
 use Rattle.vl_values.specs.declared.value.Value.TheVariants.{Uint}
-use Rattle.vl_model.specs.declared.stmt.Stmt.{Stmt}
-use Rattle.vl_model.specs.declared.stmt.Stmt.TheVariants.{Insert}
+use Rattle.vl_sql.specs.declared.stmt.Stmt.{Stmt}
+use Rattle.vl_model.specs.Taken.{insert_of}
 use Rattle.vl_model.specs.Tables.{Tables, Pair, table_of, column}
 use Rattle.vl_model.specs.CatalogA.{t1, numeric, shard_of, shard_name}
 
@@ -46,6 +46,6 @@ pub data Inserts (old : Rows) (id u : ℕ) (new : Rows) : Reply → Type 0 where
   HasId : (other : ℕ) → IsFreeU old u → Contains old (t1_row id other) → new ≡ old → Inserts old id u new (duplicate id (codes "PRIMARY") id)
   NoRoom : new ≡ old → Inserts old id u new (refusal OutOfMemory false)
 
--- the statement's step from old to new, with its reply
+-- the statement's step from old to new, with its reply: it is an INSERT that is taken
 abbrev pub Step : Rows → Stmt → Reply → Rows → Type 0
-Step old (Insert id u) reply new = Inserts old id u new reply
+Step old stmt reply new = (id : ℕ) × (u : ℕ) × (insert_of stmt ≡ Some (id, u)) × Inserts old id u new reply

@@ -1,0 +1,4 @@
+pub mod OneTable
+pub mod Sounding
+pub mod Taking
+pub mod Worked
