@@ -1,12 +1,12 @@
 -- A statement that was run on the shards' lists is answered as the core's view says.
-use Rattle.std.proofs.Common.{◌≡◌, ℕ, ◌+◌, ◌<◌, ◌≤◌, List, [], ◌∷◌, ◌++◌, length, take, drop, set, get_or, refl, sym, ◌∙◌, ap, subst, arith}
+use Rattle.std.proofs.Common.{◌≡◌, ℕ, ◌+◌, ◌<◌, ◌≤◌, List, [], ◌∷◌, ◌++◌, length, take, drop, set, get_or, refl, sym, ◌∙◌, ap, subst, arith, Some}
 use Rattle.std.proofs.lemmas.List.{take_all, append-nil}
 use Rattle.std.proofs.lemmas.List.Elements.{All-contains}
 use Rattle.std.proofs.Math.ListN.{drop_of_length-le}
 use Rattle.vl_values.specs.declared.reply.Reply.{Reply as AReply}
 use Rattle.vl_values.specs.declared.reply.Reply.TheVariants.{Ok, Err}
-use Rattle.vl_model.specs.declared.stmt.Stmt.{Stmt}
-use Rattle.vl_model.specs.declared.stmt.Stmt.TheVariants.{Insert}
+use Rattle.vl_sql.specs.declared.stmt.Stmt.{Stmt}
+use Rattle.vl_model.specs.Taken.{insert_of}
 use Rattle.vl_model.specs.Steps.{Inserts, Step, Rows, table_rows}
 use Rattle.vl_cluster.specs.declared.session.Session.{Session}
 use Rattle.vl_cluster.specs.declared.what.What.{What}
@@ -25,12 +25,15 @@ whole n xs ys is same =
 abbrev pub shown : List Lists → List Session → ℕ → ℕ → View
 shown shards joined at named = record { tables = tables_of shards; joined = joined; at = at; named = named }
 
-step_shown : (shards after : List Lists) (id u : ℕ) (stmt : Stmt) (reply : AReply) → stmt ≡ Insert id u → Inserts (all_rows shards) id u (all_rows after) reply
+step_shown : (shards after : List Lists) (id u : ℕ) (stmt : Stmt) (reply : AReply) → insert_of stmt ≡ Some (id, u) → Inserts (all_rows shards) id u (all_rows after) reply
     → Step (table_rows (tables_of shards)) stmt reply (table_rows (tables_of after))
-step_shown shards after id u stmt reply is step =
-    subst (λ (s : Stmt). Step (table_rows (tables_of shards)) s reply (table_rows (tables_of after))) (sym is)
-    (subst (λ (r : Rows). Inserts r id u (table_rows (tables_of after)) reply) (sym (table_rows-tables_of shards))
-    (subst (λ (r : Rows). Inserts (all_rows shards) id u r reply) (sym (table_rows-tables_of after)) step))
+step_shown shards after id u stmt reply is step = (
+  id,
+  u,
+  is,
+  subst (λ (r : Rows). Inserts r id u (table_rows (tables_of after)) reply) (sym (table_rows-tables_of shards))
+      (subst (λ (r : Rows). Inserts (all_rows shards) id u r reply) (sym (table_rows-tables_of after)) step),
+)
 
 before_last : (at : ℕ) → (at ≡ last_event → ⊥) → at ≤ last_event → at < last_event
 before_last at apart bound = omega arith
@@ -45,7 +48,7 @@ rises joined at place pass next lawful within here moved =
     let seen = All-contains (λ (s : Session). s.at ≤ at) joined pass lawful.seen (place, within, here) in let later : next.at ≡ at + 1 = ap (λ (s : Session). s.at) moved in omega arith
 
 pub answered : (old : View) (shards after : List Lists) (joined : List Session) (at named place id u : ℕ) (stmt : Stmt) (pass next : Session) (reply : AReply) (what : What)
-    → shown shards joined at named ≡ old → place < length joined → get_or joined place pass ≡ pass → (at ≡ last_event → ⊥) → stmt ≡ Insert id u
+    → shown shards joined at named ≡ old → place < length joined → get_or joined place pass ≡ pass → (at ≡ last_event → ⊥) → insert_of stmt ≡ Some (id, u)
     → Inserts (all_rows shards) id u (all_rows after) reply → IfRefused reply (after ≡ shards) → AreLawful joined at → next ≡ record { number = pass.number; at = at + 1 } → what ≡ Reply reply
     → Acted old pass stmt next what (shown after (set joined place (record { number = pass.number; at = at + 1 })) (at + 1) named)
 answered old shards after joined at named place id u stmt pass next reply what is within here apart asks step refused lawful moved told =
@@ -66,7 +69,7 @@ answered old shards after joined at named place id u stmt pass next reply what i
 -- the same where the vector of the shards and the pass are told by equations
 pub answered_of : (old : View) (shards after lists : List Lists) (joined : List Session) (at named place id u : ℕ) (stmt : Stmt) (given pass next : Session) (reply : AReply) (what : What)
     → lists ≡ after → pass ≡ given
-    → shown shards joined at named ≡ old → place < length joined → get_or joined place pass ≡ pass → (at ≡ last_event → ⊥) → stmt ≡ Insert id u
+    → shown shards joined at named ≡ old → place < length joined → get_or joined place pass ≡ pass → (at ≡ last_event → ⊥) → insert_of stmt ≡ Some (id, u)
     → Inserts (all_rows shards) id u (all_rows after) reply → IfRefused reply (after ≡ shards) → AreLawful joined at → next ≡ record { number = pass.number; at = at + 1 } → what ≡ Reply reply
     → Acted old given stmt next what (shown lists (set joined place (record { number = pass.number; at = at + 1 })) (at + 1) named)
 answered_of old shards after lists joined at named place id u stmt given pass next reply what as_written same is within here apart asks step refused lawful moved told =

@@ -4,7 +4,7 @@ use Rattle.vl_values.specs.declared.reply.Reply.{Reply as AReply}
 use Rattle.vl_values.specs.declared.reply.Reply.TheVariants.{Ok, Err}
 use Rattle.vl_model.specs.Tables.{Tables}
 use Rattle.vl_model.specs.Steps.{Step, table_rows}
-use Rattle.vl_model.specs.declared.stmt.Stmt.{Stmt}
+use Rattle.vl_sql.specs.declared.stmt.Stmt.{Stmt}
 use Rattle.vl_cluster.specs.declared.ask.Ask.{Ask}
 use Rattle.vl_cluster.specs.declared.ask.Ask.TheVariants.{Say}
 use Rattle.vl_cluster.specs.declared.session.Session.{Session}

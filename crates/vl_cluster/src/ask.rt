@@ -1,7 +1,7 @@
-use vl_model::stmt::Stmt;
+use vl_sql::stmt::Stmt;
 
 /// What a session asks of the core.
-#[derive(Clone, Copy, Debug, PartialEq, Eq)]
+#[derive(Debug, Drop)]
 pub enum Ask {
     /// To run a statement.
     Say(Stmt),

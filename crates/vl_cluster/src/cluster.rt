@@ -1,18 +1,18 @@
-ghost use Rattle.std.specs.Prelude.{◌≡◌, ◌≤◌, [], ◌∷◌, IfOk};
+ghost use Rattle.std.specs.Prelude.{◌≡◌, ◌≤◌, [], ◌∷◌, IfOk, Some};
 ghost use Rattle.vl_cluster.specs.Lists.{nothing};
 ghost use Rattle.vl_cluster.specs.View.{next_event, last_event, stmt_of};
-ghost use Rattle.vl_model.specs.declared.stmt.Stmt.TheVariants.{Insert};
+ghost use Rattle.vl_model.specs.Taken.{insert_of, IsTaken};
 
 use crate::ask::Ask;
 use crate::pass::Pass;
 use crate::session::Session;
 use crate::shard::Shard;
+use crate::taken::insert_of;
 use crate::told::Told;
 use crate::what::What;
 use crate::{insert, sessions};
 use std::alloc::{AllocError, Global};
 use std::marker::Model;
-use vl_model::stmt::Stmt;
 
 /// The last number that an event can have.
 const LAST_EVENT: u64 = 4611686018427387903;
@@ -60,10 +60,14 @@ fn two_shards(alloc: Global) -> Result<Vec<Shard>, AllocError>
 }
 
 fn values_of(ask: Ask) -> (u64, u64)
-    ensures { stmt_of ask ≡ Insert result.0 result.1 }
+    requires { IsTaken (stmt_of ask) }
+    ensures { insert_of (stmt_of ask) ≡ Some (result.0, result.1) }
 {
     match ask {
-        Ask::Say(Stmt::Insert { id, u }) => (id, u),
+        Ask::Say(stmt) => match insert_of(&stmt) {
+            Some(values) => values,
+            None => unreachable!(),
+        },
     }
 }
 
@@ -72,6 +76,7 @@ impl Cluster {
     ghost use Rattle.vl_model.specs.Tables.{HasKeysOnce};
     ghost use Rattle.vl_catalog.specs.CatalogA.{catalog_a};
     ghost use Rattle.vl_model.specs.Sound.{Sound};
+    ghost use Rattle.vl_model.specs.Taken.{IsTaken};
     ghost use Rattle.vl_cluster.specs.Numbers.{AreLawful};
     ghost use Rattle.vl_cluster.specs.View.{Acted, Joins, Leaves, last_event, stmt_of};
 
@@ -116,9 +121,10 @@ impl Cluster {
         Ok(Pass::new(session))
     }
 
-    /// Runs a statement, in one event. `Stray` is none: no joined session has the pass's numbers, or the
-    /// last event number is reached.
+    /// Runs a statement that the core takes, which `insert_of` tests, in one event. `Stray` is none: no
+    /// joined session has the pass's numbers, or the last event number is reached.
     pub fn act(&mut self, pass: Pass, ask: Ask) -> (Pass, Told)
+        requires { IsTaken (stmt_of ask) }
         ensures acted { Acted self.old pass (stmt_of ask) result.0 result.1.1 self.new }
         ensures told { result.1.0 ≡ result.0 }
         ensures within { result.0.at ≤ last_event }

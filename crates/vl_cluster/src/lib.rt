@@ -16,6 +16,7 @@ mod place;
 pub mod session;
 mod sessions;
 mod shard;
+pub mod taken;
 #[cfg(test)]
 mod tests;
 pub mod told;

@@ -5,10 +5,8 @@ use Rattle.std.specs.Char.{IsAsciiDigit}
 use Rattle.std.proofs.lemmas.Bool.{ne_eqb, false≢true}
 use Rattle.std.proofs.lemmas.List.{append_cancel_left, append_cancel_right, take_all}
 use Rattle.std.proofs.lemmas.List.Elements.{All-head, All-tail, All-weaker, All-contains, Contains-append_right}
-use Rattle.vl_insert_text.specs.Insert.{Says}
+use Rattle.vl_insert_text.specs.Insert.{Spells}
 use Rattle.vl_model.specs.ScriptLine.{IsNumber}
-use Rattle.vl_model.specs.declared.stmt.Stmt.{Stmt}
-use Rattle.vl_model.specs.declared.stmt.Stmt.TheVariants.{Insert}
 
 abbrev pub HasNoComma : List ℕ → Type 0
 HasNoComma = All (λ b. (b == 44) ≡ false)
@@ -40,23 +38,23 @@ cut_once (x ∷ xs) ys (z ∷ zs) more e p q =
     (cc (first, same.0), same.1)
 
 -- a statement begins so
-pub begins_so : (text : List ℕ) (stmt : Stmt) → Says text stmt → (rest : List ℕ) × (text ≡ head ++ rest)
-begins_so text (Insert id u) asks = (asks.0 ++ (codes "," ++ (asks.1 ++ codes ")")), asks.2)
+pub begins_so : (text : List ℕ) (id u : ℕ) → Spells text id u → (rest : List ℕ) × (text ≡ head ++ rest)
+begins_so text id u asks = (asks.0 ++ (codes "," ++ (asks.1 ++ codes ")")), asks.2)
 
 -- behind that stand two numbers, and a bracket
-pub rest_so : (text rest : List ℕ) (id u : ℕ) → text ≡ head ++ rest → (asks : Says text (Insert id u)) → rest ≡ (asks.0 ++ 44 ∷ asks.1) ++ codes ")"
+pub rest_so : (text rest : List ℕ) (id u : ℕ) → text ≡ head ++ rest → (asks : Spells text id u) → rest ≡ (asks.0 ++ 44 ∷ asks.1) ++ codes ")"
 rest_so text rest id u front asks =
     append_cancel_left head rest _ (sym front ∙ asks.2) ∙ sym (append_assoc asks.0 (44 ∷ asks.1) (codes ")"))
 
-pub ends_so : (text rest : List ℕ) (stmt : Stmt) → text ≡ head ++ rest → Says text stmt → (values : List ℕ) × (rest ≡ values ++ codes ")")
-ends_so text rest (Insert id u) front asks = (asks.0 ++ 44 ∷ asks.1, rest_so text rest id u front asks)
+pub ends_so : (text rest : List ℕ) (id u : ℕ) → text ≡ head ++ rest → Spells text id u → (values : List ℕ) × (rest ≡ values ++ codes ")")
+ends_so text rest id u front asks = (asks.0 ++ 44 ∷ asks.1, rest_so text rest id u front asks)
 
-pub values_so : (text rest values : List ℕ) (id u : ℕ) → text ≡ head ++ rest → rest ≡ values ++ codes ")" → (asks : Says text (Insert id u)) → values ≡ asks.0 ++ 44 ∷ asks.1
+pub values_so : (text rest values : List ℕ) (id u : ℕ) → text ≡ head ++ rest → rest ≡ values ++ codes ")" → (asks : Spells text id u) → values ≡ asks.0 ++ 44 ∷ asks.1
 values_so text rest values id u front end asks =
     append_cancel_right values (asks.0 ++ 44 ∷ asks.1) (codes ")") (sym end ∙ rest_so text rest id u front asks)
 
 -- the numbers are those before and behind the first comma
-pub numbers_so : (text rest values first second : List ℕ) (id u : ℕ) → text ≡ head ++ rest → rest ≡ values ++ codes ")" → values ≡ first ++ 44 ∷ second → HasNoComma first → Says text (Insert id u)
+pub numbers_so : (text rest values first second : List ℕ) (id u : ℕ) → text ≡ head ++ rest → rest ≡ values ++ codes ")" → values ≡ first ++ 44 ∷ second → HasNoComma first → Spells text id u
     → IsNumber first id × IsNumber second u
 numbers_so text rest values first second id u front end cut plain asks =
     let same : (first ≡ asks.0) × (second ≡ asks.1) =

@@ -5,6 +5,7 @@
 //! statement that a text says, and none exactly where the text says none.
 #![tactic(auto)]
 
+mod insert;
 mod number;
 mod statement;
 

@@ -1,14 +1,31 @@
-ghost use Rattle.std.specs.Prelude.{◌≡◌, ℕ, List, ◌∷◌, ◌++◌, All, ◌==◌, false, IfSome, IfNone};
-ghost use Rattle.vl_insert_text.specs.Insert.{Says};
-ghost use Rattle.vl_model.specs.declared.stmt.Stmt.{Stmt as AStmt};
+ghost use Rattle.std.specs.Prelude.{◌≡◌, ℕ, List, ◌∷◌, ◌++◌, All, ◌==◌, false, IfOk, IfSome, IfNone, OnErr};
+ghost use Rattle.vl_insert_text.specs.Insert.{Spells, Says};
+ghost use Rattle.vl_sql.specs.declared.stmt.Stmt.{Stmt as AStmt};
 
+use crate::insert::insert_into_t1;
 use crate::number::number_of;
-use vl_model::stmt::Stmt;
+use std::alloc::{AllocError, Global};
+use vl_sql::stmt::Stmt;
 
-/// The statement that a text says, if it says one.
-pub fn statement_of(text: &[u8]) -> Option<Stmt>
-    ensures some { IfSome result (λ stmt. Says text.now stmt) }
-    ensures none { IfNone result ((stmt : AStmt) → Says text.now stmt → ⊥) }
+/// The statement that a text says, if it says one. Only for that it takes memory.
+pub fn statement_of(alloc: Global, text: &[u8]) -> Result<Option<Stmt>, AllocError>
+    ensures some { IfOk result (λ found. IfSome found (λ stmt. Says text.now stmt)) }
+    ensures none { IfOk result (λ found. IfNone found ((stmt : AStmt) → Says text.now stmt → ⊥)) }
+    ensures memory { OnErr result ((id : ℕ) × (u : ℕ) × Spells text.now id u) }
+{
+    let Some((id, u)) = values_of(text) else {
+        return Ok(None);
+    };
+    match insert_into_t1(alloc, id, u) {
+        Ok(stmt) => Ok(Some(stmt)),
+        Err(error) => Err(error),
+    }
+}
+
+// The values of id and u in a text that is a statement.
+fn values_of(text: &[u8]) -> Option<(u64, u64)>
+    ensures some { IfSome result (λ values. Spells text.now values.0 values.1) }
+    ensures none { IfNone result ((id u : ℕ) → Spells text.now id u → ⊥) }
 {
     let Some(rest) = without_front(text, b"INSERT INTO t1(id,u) VALUES(") else {
         return None;
@@ -25,7 +42,7 @@ pub fn statement_of(text: &[u8]) -> Option<Stmt>
     let Some(u) = number_of(second) else {
         return None;
     };
-    Some(Stmt::Insert { id, u })
+    Some((id, u))
 }
 
 // What follows a front of the text.

@@ -8,7 +8,7 @@ use Rattle.std.proofs.lemmas.List.{get_or_default, get_or-set_same, get_or-set_o
 use Rattle.std.proofs.lemmas.List.Edits.{get_or-remove_below, get_or-remove_above, length-remove}
 use Rattle.std.proofs.lemmas.List.Elements.{All-contains, Contains-append_left, Contains-push}
 use Rattle.std.proofs.Math.ListN.{length-set}
-use Rattle.vl_model.specs.declared.stmt.Stmt.{Stmt}
+use Rattle.vl_sql.specs.declared.stmt.Stmt.{Stmt}
 use Rattle.vl_cluster.specs.View.{View, Joins, Acted, Leaves, last_event, next_event}
 use Rattle.vl_cluster.specs.declared.session.Session.{Session}
 use Rattle.vl_cluster.specs.declared.what.What.{What}

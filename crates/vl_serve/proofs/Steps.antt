@@ -1,5 +1,5 @@
 -- What a packet, or a fault of one, brings to a connection.
-use Rattle.std.proofs.Common.{◌≡◌, ◌≢◌, ◌∙◌, ap, sym, refl, subst, ℕ, inl, inr, List, [], ◌∷◌, ◌++◌, false, Option, Some, None, append_assoc}
+use Rattle.std.proofs.Common.{◌≡◌, ◌≢◌, ◌∙◌, ap, sym, refl, subst, ℕ, inl, inr, List, [], ◌∷◌, ◌++◌, false, Option, Some, None, IsSome, append_assoc}
 use Rattle.std.proofs.lemmas.List.{append-nil}
 use Rattle.std.specs.List.{slice_get}
 use Rattle.vl_base.proofs.Known.{appends_none}
@@ -12,7 +12,8 @@ use Rattle.my_packet.proofs.Streams.{due_after_zero, spells_joined, breaks_joine
 use Rattle.vl_values.specs.Reply.{refusal}
 use Rattle.vl_values.specs.declared.cause.Cause.{Cause}
 use Rattle.vl_values.specs.declared.cause.Cause.TheVariants.{PacketTooLarge, PacketOrder}
-use Rattle.vl_model.specs.declared.stmt.Stmt.{Stmt}
+use Rattle.vl_sql.specs.declared.stmt.Stmt.{Stmt}
+use Rattle.vl_model.specs.Taken.{IsTaken}
 use Rattle.vl_cluster.specs.View.{View}
 use Rattle.vl_cluster.specs.declared.session.Session.{Session}
 use Rattle.vl_cluster.specs.declared.what.What.{What}
@@ -24,9 +25,13 @@ use Rattle.vl_serve.specs.History.{Deed, Ran}
 use Rattle.vl_serve.specs.History.Deed.{Say}
 use Rattle.vl_serve.specs.Serving.{Step, Brings, BringsFirst, Wrote, TellsWhat, TellsFault, Refuses, Serves, Goes}
 use Rattle.vl_serve.specs.declared.end.ConnEnd.{ConnEnd}
-use Rattle.vl_serve.specs.declared.end.ConnEnd.TheVariants.{Quit, Refused, WriteFault, Strayed}
+use Rattle.vl_serve.specs.declared.end.ConnEnd.TheVariants.{Quit, Refused, WriteFault, Strayed, Memory}
 use Rattle.vl_serve.specs.declared.request.Request.TheVariants.{Run}
 use Rattle.vl_serve.proofs.Runs.{ran_none}
+
+-- the core takes the statement of a payload
+pub means_taken : (payload : List ℕ) (stmt : Stmt) → Means payload (Run stmt) → IsTaken stmt
+means_taken payload stmt means = subst (λ (found : Option (ℕ × ℕ)). IsSome found) (sym means.2.3) refl
 
 -- a statement was asked, and what was told is written
 pub said_step : (pass next : Session) (core now_core : Option View) (held now_held : Option (List ℕ)) (payload : List ℕ) (stmt : Stmt) (what : What) (end : Option ConnEnd)
@@ -61,6 +66,10 @@ refused_step pass core held now_held payload bytes None a w =
 refused_step pass core held now_held payload bytes (Some WriteFault) a w =
     record { says = []; text = w.0; chained = refl; ran = ran_none core; wrote = w.3; holds = (w.1, subst (λ (v : List ℕ). IsAnswered payload [] v) w.2 a) }
 refused_step pass core held now_held payload bytes (Some end) a w = absurd w
+
+-- memory lacked for its statement
+pub lost_step : (pass : Session) (core : Option View) (held : Option (List ℕ)) (payload : List ℕ) → Step pass pass core core held held (Brings payload (Some Memory))
+lost_step pass core held payload = record { says = []; text = []; chained = refl; ran = ran_none core; wrote = appends_none held; holds = (refl, refl) }
 
 -- no packet ended
 pub none_step : (pass : Session) (core : Option View) (held : Option (List ℕ)) (packets : List Packet) → slice_get packets 0 ≡ None → Step pass pass core core held held (BringsFirst packets None)
@@ -126,6 +135,10 @@ one_heard framing now read piece says more bytes text p (Some WriteFault) s r e 
     let whole = spelled_more framing now read piece s.packets (p ∷ []) s.spells s.due r in
     let answered = answered_more s.packets p says more bytes (text ++ b.0) s.answered b.1 in
     (b.0, inl (s.packets ++ p ∷ [], now.held, whole, subst (λ (v : List ℕ). AreAnswered (s.packets ++ p ∷ []) (says ++ more) v) (sym (append_assoc bytes text b.0)) answered))
+one_heard framing now read piece says more bytes text p (Some Memory) s r e b =
+    let said = subst (λ (v : List Deed). AreAnswered s.packets v bytes) (sym (nothing_said says more b.0)) s.answered in
+    let written = subst (λ (v : List ℕ). AreAnswered s.packets (says ++ more) v) (sym (nothing_written bytes text b.1)) said in
+    (read, piece, refl, (s.packets, framing.held, s.spells, written))
 one_heard framing now read piece says more bytes text p (Some end) s r e b = absurd b
 
 -- what a feed brings that ends at most one packet

@@ -3,7 +3,7 @@ use Rattle.std.specs.Prelude.{◌≡◌, ◌≢◌, ℕ, false, List, [], ◌∷
 use Rattle.my_packet.specs.declared.packet.Packet.{Packet}
 use Rattle.my_reply.specs.Reply.{reply_bytes}
 use Rattle.vl_insert_text.specs.Insert.{Says}
-use Rattle.vl_model.specs.declared.stmt.Stmt.{Stmt}
+use Rattle.vl_sql.specs.declared.stmt.Stmt.{Stmt}
 use Rattle.vl_values.specs.declared.cause.Cause.TheVariants.{Syntax, UnknownCommand}
 use Rattle.vl_values.specs.declared.reply.Reply.{Reply as AReply}
 use Rattle.vl_values.specs.Reply.{refusal}

@@ -1,7 +1,7 @@
 -- What happens at the core while a session is there: events of that session, and events of others.
 use Rattle.std.specs.Prelude.{◌≡◌, Bool, true, false, List, [], ◌∷◌, Option, Some, None}
 use Rattle.std.specs.List.{filter_map}
-use Rattle.vl_model.specs.declared.stmt.Stmt.{Stmt}
+use Rattle.vl_sql.specs.declared.stmt.Stmt.{Stmt}
 use Rattle.vl_cluster.specs.View.{View, Joins, Acted, Leaves, last_event}
 use Rattle.vl_cluster.specs.declared.session.Session.{Session}
 use Rattle.vl_cluster.specs.declared.what.What.{What}

@@ -12,7 +12,7 @@ use Rattle.vl_values.specs.Cause.{error_code}
 use Rattle.vl_values.specs.Reply.{refusal}
 use Rattle.vl_values.specs.declared.cause.Cause.{Cause}
 use Rattle.vl_values.specs.declared.cause.Cause.TheVariants.{PacketTooLarge, PacketOrder}
-use Rattle.vl_model.specs.declared.stmt.Stmt.{Stmt}
+use Rattle.vl_sql.specs.declared.stmt.Stmt.{Stmt}
 use Rattle.vl_cluster.specs.View.{View}
 use Rattle.vl_cluster.specs.declared.session.Session.{Session}
 use Rattle.vl_cluster.specs.declared.what.What.{What}
@@ -30,6 +30,7 @@ abbrev pub Brings : List ℕ → Option ConnEnd → List Deed → List ℕ → T
 Brings payload None says text = IsAnswered payload says text
 Brings payload (Some Quit) says text = Means payload AsksQuit × (says ≡ []) × (text ≡ [])
 Brings payload (Some Strayed) says text = (stmt : Stmt) × (pass : Session) × (next : Session) × Means payload (Run stmt) × (says ≡ Say pass stmt Stray next ∷ []) × (text ≡ [])
+Brings payload (Some Memory) says text = (says ≡ []) × (text ≡ [])
 Brings payload (Some WriteFault) says text = (unwritten : List ℕ) × IsAnswered payload says (text ++ unwritten)
 Brings payload (Some end) says text = ⊥
 

@@ -1,5 +1,6 @@
 ghost use Rattle.std.specs.Prelude.{◌≡◌, ◌≤◌, ℕ, List, false, Some};
 ghost use Rattle.vl_base.specs.Faults.{Rose};
+ghost use Rattle.vl_model.specs.Taken.{IsTaken};
 ghost use Rattle.vl_serve.specs.Command.{Means, reply_packet};
 ghost use Rattle.vl_serve.specs.History.{IsLast};
 ghost use Rattle.vl_serve.specs.Serving.{Step, Brings, BringsFirst, Wrote, TellsWhat, TellsFault, Refuses};
@@ -12,11 +13,12 @@ use crate::gate::Gate;
 use crate::request::Request;
 use my_packet::{FaultCause, Packet};
 use my_reply::{PROTOCOL_41, ShortBuf, encode_short};
+use std::alloc::Global;
 use vl_base::{Sink, write_all};
 use vl_cluster::ask::Ask;
 use vl_cluster::pass::Pass;
 use vl_cluster::what::What;
-use vl_model::stmt::Stmt;
+use vl_sql::stmt::Stmt;
 use vl_values::cause::Cause;
 use vl_values::reply::Reply;
 
@@ -56,6 +58,7 @@ fn run<G: Gate, O: Sink>(
     short: &mut ShortBuf,
     stmt: Stmt,
 ) -> (Pass, Option<ConnEnd>)
+    requires { IsTaken stmt }
     ensures step { (payload : List ℕ) → Means payload (Run stmt)
         → Step pass result.0 (G.seen gate.old) (G.seen gate.new) (O.held out.old) (O.held out.new) (Brings payload result.1) }
     ensures due { G.is_due gate.old pass → G.is_due gate.new result.0 }
@@ -78,8 +81,10 @@ fn refuse<O: Sink>(out: &mut O, short: &mut ShortBuf, why: Cause) -> Option<Conn
     write_reply(out, short, &reply)
 }
 
-/// Answers a payload. The connection goes on, or has ended.
+/// Answers a payload. The connection goes on, or has ended: where memory is wanted for its statement,
+/// before that is asked.
 fn answer<G: Gate, O: Sink>(
+    alloc: Global,
     gate: &mut G,
     pass: Pass,
     out: &mut O,
@@ -92,7 +97,10 @@ fn answer<G: Gate, O: Sink>(
     ensures later { O.faults out.old ≤ O.faults out.new }
     ensures fault { result.1 ≡ Some WriteFault → Rose (O.faults out.old) (O.faults out.new) }
 {
-    match Request::of(payload) {
+    let Ok(request) = Request::of(alloc, payload) else {
+        return (pass, Some(ConnEnd::Memory));
+    };
+    match request {
         Request::Quit => (pass, Some(ConnEnd::Quit)),
         Request::Run(stmt) => run(gate, pass, out, short, stmt),
         Request::NoStatement => (pass, refuse(out, short, Cause::Syntax { at: 0 })),
@@ -102,6 +110,7 @@ fn answer<G: Gate, O: Sink>(
 
 /// Answers the packet that a feed ended, if it ended one.
 pub(crate) fn answer_packet<G: Gate, O: Sink>(
+    alloc: Global,
     gate: &mut G,
     pass: Pass,
     out: &mut O,
@@ -117,7 +126,7 @@ pub(crate) fn answer_packet<G: Gate, O: Sink>(
     let Some(packet) = packets.first() else {
         return (pass, None);
     };
-    answer(gate, pass, out, short, packet.payload.as_slice())
+    answer(alloc, gate, pass, out, short, packet.payload.as_slice())
 }
 
 /// Refuses a packet, which ends the connection.

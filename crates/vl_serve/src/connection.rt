@@ -24,6 +24,7 @@ const MOST_READS: u64 = 4_611_686_018_427_387_903;
 
 /// Takes a piece of the stream, and answers the packet that it ends.
 fn hear<G: Gate, O: Sink>(
+    alloc: Global,
     framer: &mut Framer,
     gate: &mut G,
     pass: Pass,
@@ -42,13 +43,14 @@ fn hear<G: Gate, O: Sink>(
     ensures heard { (result.1 ≢ Some Ended) × (result.1 ≢ Some ReadFault) × (result.1 ≢ Some Spent) }
 {
     match framer.feed(piece) {
-        Ok(packets) => answer_packet(gate, pass, out, short, packets.as_slice()),
+        Ok(packets) => answer_packet(alloc, gate, pass, out, short, packets.as_slice()),
         Err(fault) => (pass, Some(tell_fault(out, short, fault.cause))),
     }
 }
 
 /// Makes one read into this room, and answers the packet that its bytes end.
 fn turn<G: Gate, S: Source, O: Sink>(
+    alloc: Global,
     framer: &mut Framer,
     gate: &mut G,
     pass: Pass,
@@ -72,7 +74,7 @@ fn turn<G: Gate, S: Source, O: Sink>(
 {
     match src.read(room) {
         Ok(0) => (pass, Some(ConnEnd::Ended)),
-        Ok(got) => hear(framer, gate, pass, out, short, &room[..got]),
+        Ok(got) => hear(alloc, framer, gate, pass, out, short, &room[..got]),
         Err(_) => (pass, Some(ConnEnd::ReadFault)),
     }
 }
@@ -97,7 +99,16 @@ fn talk<G: Gate, S: Source, O: Sink>(
     let mut reads: u64 = 0;
     'reading: while reads < MOST_READS {
         let room = framer.need().min(PIECE);
-        let (next, end) = turn(&mut framer, gate, pass, src, out, short, &mut piece[..room]);
+        let (next, end) = turn(
+            alloc,
+            &mut framer,
+            gate,
+            pass,
+            src,
+            out,
+            short,
+            &mut piece[..room],
+        );
         if let Some(end) = end {
             return (next, end);
         }

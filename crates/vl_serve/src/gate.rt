@@ -1,4 +1,5 @@
 ghost use Rattle.std.specs.Prelude.{◌≡◌, [], ◌∷◌, Option, OnErr, IfOk};
+ghost use Rattle.vl_model.specs.Taken.{IsTaken};
 ghost use Rattle.vl_cluster.specs.View.{View, stmt_of};
 ghost use Rattle.vl_cluster.specs.declared.session.Session.{Session};
 ghost use Rattle.vl_cluster.specs.declared.what.What.TheVariants.{Stray};
@@ -25,9 +26,10 @@ pub trait Gate {
         ensures err { OnErr result (Ran (seen self.old) [] (seen self.new)) }
         ensures due { IfOk result (λ pass. is_due self.new pass) };
 
-    /// Asks the core, and gives the pass for the next event. Over a core that is told, a pass that was
-    /// due is refused only at the last event number.
+    /// Asks the core what it takes, and gives the pass for the next event. Over a core that is told, a pass
+    /// that was due is refused only at the last event number.
     fn act(&mut self, pass: Pass, ask: Ask) -> (Pass, Told)
+        requires { IsTaken (stmt_of ask) }
         ensures said { Ran (seen self.old) (Say pass (stmt_of ask) result.1.1 result.0 ∷ []) (seen self.new) }
         ensures due { is_due self.old pass → is_due self.new result.0 }
         ensures stray { is_due self.old pass → result.1.1 ≡ Stray → IsLast (seen self.new) };

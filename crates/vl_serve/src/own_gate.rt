@@ -3,36 +3,41 @@ ghost use Rattle.vl_serve.specs.Playing.{Played};
 
 use crate::gate::Gate;
 use std::alloc::AllocError;
+use std::vec;
 use vl_cluster::ask::Ask;
 use vl_cluster::cluster::Cluster;
 use vl_cluster::pass::Pass;
+use vl_cluster::taken::insert_of;
 use vl_cluster::told::Told;
-use vl_model::stmt::Stmt;
+use vl_sql::stmt::Stmt;
 
 /// A gate to a core that it has to itself. Before each of its calls other sessions say the statements of
 /// the next round, each by a session that joins for it and leaves.
 #[derive(Drop)]
 pub struct OwnGate<'a> {
     cluster: &'a mut Cluster,
-    rounds: Vec<Vec<Stmt>>,
-    next: usize,
+    rounds: vec::IntoIter<Vec<Stmt>>,
 }
 
-/// Another session joins, says a statement and leaves. Nothing happens where it cannot join.
+/// Another session joins, says a statement and leaves. Nothing happens where the core doesn't take the
+/// statement, or the session cannot join.
 fn play_one(cluster: &mut Cluster, stmt: Stmt)
     ensures { Played cluster.old cluster.new }
 {
+    if insert_of(&stmt).is_none() {
+        return;
+    }
     if let Ok(pass) = cluster.join() {
         let (pass, _) = cluster.act(pass, Ask::Say(stmt));
         cluster.leave(pass);
     }
 }
 
-fn play_round(cluster: &mut Cluster, round: &[Stmt])
+fn play_round(cluster: &mut Cluster, round: Vec<Stmt>)
     ensures { Played cluster.old cluster.new }
 {
     for stmt in round {
-        play_one(cluster, *stmt);
+        play_one(cluster, stmt);
     }
 }
 
@@ -43,8 +48,7 @@ impl<'a> OwnGate<'a> {
     {
         OwnGate {
             cluster,
-            rounds,
-            next: 0,
+            rounds: rounds.into_iter(),
         }
     }
 
@@ -52,9 +56,8 @@ impl<'a> OwnGate<'a> {
     fn play(&mut self)
         ensures { Played self.old.cluster.now self.new.cluster.now }
     {
-        if let Some(round) = self.rounds.get(self.next) {
-            play_round(self.cluster, round.as_slice());
-            self.next += 1;
+        if let Some(round) = self.rounds.next() {
+            play_round(self.cluster, round);
         }
     }
 }

@@ -1,8 +1,9 @@
+use std::alloc::{AllocError, Global};
 use vl_insert_text::statement_of;
-use vl_model::stmt::Stmt;
+use vl_sql::stmt::Stmt;
 
 /// What the payload of a packet asks.
-#[derive(Clone, Copy, Debug, PartialEq, Eq)]
+#[derive(Debug, Drop)]
 pub enum Request {
     /// To end the connection.
     Quit,
@@ -19,29 +20,33 @@ const QUIT: u8 = 0x01;
 const QUERY: u8 = 0x03;
 
 impl Request {
-    ghost use Rattle.std.specs.Prelude.{◌∷◌};
+    ghost use Rattle.std.specs.Prelude.{◌∷◌, IfOk};
     ghost use Rattle.vl_serve.specs.Command.{Means};
 
     /// What a payload asks: its first byte is the command.
-    pub fn of(payload: &[u8]) -> Request
-        ensures { Means payload.now result }
+    pub fn of(alloc: Global, payload: &[u8]) -> Result<Request, AllocError>
+        ensures { IfOk result (λ request. Means payload.now request) }
     {
         let Some((command, rest)) = payload.split_first() else {
-            return Request::Unknown;
+            return Ok(Request::Unknown);
         };
         match *command {
-            QUIT => Request::Quit,
-            QUERY => Request::of_text(rest),
-            _ => Request::Unknown,
+            QUIT => Ok(Request::Quit),
+            QUERY => {
+                let request = Request::of_text(alloc, rest)?;
+                Ok(request)
+            }
+            _ => Ok(Request::Unknown),
         }
     }
 
-    fn of_text(text: &[u8]) -> Request
-        ensures { Means (3 ∷ text.now) result }
+    fn of_text(alloc: Global, text: &[u8]) -> Result<Request, AllocError>
+        ensures { IfOk result (λ request. Means (3 ∷ text.now) request) }
     {
-        match statement_of(text) {
-            Some(stmt) => Request::Run(stmt),
-            None => Request::NoStatement,
+        match statement_of(alloc, text) {
+            Ok(Some(stmt)) => Ok(Request::Run(stmt)),
+            Ok(None) => Ok(Request::NoStatement),
+            Err(error) => Err(error),
         }
     }
 }

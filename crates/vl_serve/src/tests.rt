@@ -6,7 +6,8 @@ use std::process::Abort;
 use std::test::Fail;
 use vl_base::{MemorySink, MemorySource};
 use vl_cluster::cluster::Cluster;
-use vl_model::stmt::Stmt;
+use vl_sql::parse;
+use vl_sql::stmt::Stmt;
 
 const INSERT: &[u8] = b"\x21\x00\x00\x00\x03INSERT INTO t1(id,u) VALUES(1,7)";
 
@@ -117,8 +118,10 @@ fn faults_end_a_connection_behind_a_front_of_its_replies(rt: HostRuntime) -> Res
 #[test]
 fn other_sessions_act_before_each_call(rt: HostRuntime) -> Result<(), Fail> {
     let alloc = rt.alloc();
-    let before_join = vec![in alloc; Stmt::Insert { id: 9, u: 8 }]?;
-    let before_insert = vec![in alloc; Stmt::Insert { id: 2, u: 6 }, Stmt::Insert { id: 3, u: 7 }]?;
+    let before_join = vec![in alloc; parse(alloc, b"INSERT INTO t1 (id, u) VALUES (9, 8)")?]?;
+    let first = parse(alloc, b"INSERT INTO t1 (id, u) VALUES (2, 6)")?;
+    let second = parse(alloc, b"INSERT INTO t1 (id, u) VALUES (3, 7)")?;
+    let before_insert = vec![in alloc; first, second]?;
     let rounds = vec![in alloc; before_join, before_insert]?;
     let Talk { out, end } = serve(alloc, &[INSERT, QUIT], 64, (&[], &[]), rounds)?;
     assert_eq!(rt; end, ConnEnd::Quit);

@@ -1,24 +1,30 @@
 -- Which texts are `run` lines, and which are passed over.
-use Rattle.std.proofs.Common.{◌≡◌, ◌∙◌, ◌<◌, ◌≤◌, ◌↔◌, ap, sym, refl, subst, ℕ, true, List, [], ◌∷◌, ◌++◌, nat_eq, IsTrue, arith, eq-eqb, length, get_or}
+use Rattle.std.proofs.Common.{◌≡◌, ◌∙◌, ◌<◌, ◌≤◌, ◌↔◌, ap, sym, refl, subst, ℕ, true, List, [], ◌∷◌, ◌++◌, nat_eq, IsTrue, arith, eq-eqb, length, get_or, Option, IsSome}
 use Rattle.std.specs.Prelude.{codes}
 use Rattle.std.proofs.lemmas.Bool.{eqb-true}
 use Rattle.std.proofs.lemmas.List.{append_cancel_left}
 use Rattle.vl_insert_text.specs.Insert.{Says}
 use Rattle.vl_model.specs.ScriptLine.{Asks, IsSkipped}
+use Rattle.vl_model.specs.Taken.{IsTaken}
 use Rattle.vl_model.specs.ScriptLine.IsSkipped.{Empty, Comment}
-use Rattle.vl_model.specs.declared.stmt.Stmt.{Stmt}
-use Rattle.vl_model.specs.declared.stmt.Stmt.TheVariants.{Insert}
+use Rattle.vl_sql.specs.declared.stmt.Stmt.{Stmt}
 
 -- a `run` line is `run s1 ` and a text that says its statement
 pub asks_said : (text said : List ℕ) (stmt : Stmt) → text ≡ codes "run s1 " ++ said → Says said stmt → Asks text stmt
-asks_said text said (Insert id u) front says = (says.0, says.1, front ∙ ap (λ l. codes "run s1 " ++ l) says.2, says.3, says.4)
+asks_said text said stmt front says =
+    (says.0, says.1, says.2.0, says.2.1, front ∙ ap (λ l. codes "run s1 " ++ l) says.2.2, says.2.3, says.2.4, says.3)
 
 pub asks_begins : (text : List ℕ) (stmt : Stmt) → Asks text stmt → (said : List ℕ) × (text ≡ codes "run s1 " ++ said)
-asks_begins text (Insert id u) asks = (codes "INSERT INTO t1(id,u) VALUES(" ++ (asks.0 ++ (codes "," ++ (asks.1 ++ codes ")"))), asks.2)
+asks_begins text stmt asks = (codes "INSERT INTO t1(id,u) VALUES(" ++ (asks.2 ++ (codes "," ++ (asks.3 ++ codes ")"))), asks.4)
 
 pub said_asks : (text said : List ℕ) (stmt : Stmt) → text ≡ codes "run s1 " ++ said → Asks text stmt → Says said stmt
-said_asks text said (Insert id u) front asks =
-    (asks.0, asks.1, append_cancel_left (codes "run s1 ") said (codes "INSERT INTO t1(id,u) VALUES(" ++ (asks.0 ++ (codes "," ++ (asks.1 ++ codes ")")))) (sym front ∙ asks.2), asks.3, asks.4)
+said_asks text said stmt front asks =
+    let spelled = append_cancel_left (codes "run s1 ") said (codes "INSERT INTO t1(id,u) VALUES(" ++ (asks.2 ++ (codes "," ++ (asks.3 ++ codes ")")))) (sym front ∙ asks.4) in
+    (asks.0, asks.1, (asks.2, asks.3, spelled, asks.5, asks.6), asks.7)
+
+-- the core takes the statement of a `run` line
+pub asks_taken : (text : List ℕ) (stmt : Stmt) → Asks text stmt → IsTaken stmt
+asks_taken text stmt asks = subst (λ (found : Option (ℕ × ℕ)). IsSome found) (sym asks.7) refl
 
 -- the first byte of a skipped line that isn't empty
 HasMark : List ℕ → Type 0

@@ -2,7 +2,7 @@
 use Rattle.std.specs.Prelude.{◌≡◌, ℕ, ◌+◌, ◌<◌, ◌≤◌, ◌⊎◌, List, [], ◌∷◌, ◌++◌, codes, length}
 use Rattle.std.specs.Fmt.{decimal}
 use Rattle.std.specs.Str.Lines.{lines}
-use Rattle.vl_model.specs.declared.stmt.Stmt.{Stmt}
+use Rattle.vl_sql.specs.declared.stmt.Stmt.{Stmt}
 use Rattle.vl_model.specs.ReplyLine.{reply_line}
 use Rattle.vl_model.specs.ScriptLine.{Asks, IsSkipped}
 use Rattle.vl_model.specs.Steps.{Rows, Step}

@@ -5,7 +5,7 @@ use Rattle.vl_base.specs.Sink.{WrotePart}
 use Rattle.vl_cluster.specs.declared.what.What.{What}
 use Rattle.vl_cluster.specs.declared.what.What.TheVariants.{Reply, Stray}
 use Rattle.vl_model.specs.ReplyLine.{reply_line}
-use Rattle.vl_model.specs.declared.stmt.Stmt.{Stmt}
+use Rattle.vl_sql.specs.declared.stmt.Stmt.{Stmt}
 use Rattle.vl_model.specs.Steps.{Rows, Step}
 use Rattle.vl_values.specs.declared.reply.Reply.{Reply as AReply}
 use Rattle.vtgate_cl.specs.declared.stop.Stop.{Stop}

@@ -5,6 +5,7 @@ ghost use Rattle.vl_cluster.specs.View.{last_event};
 ghost use Rattle.vl_cluster.specs.declared.what.What.TheVariants.{Reply as AReplyTold};
 ghost use Rattle.vl_model.specs.ReplyLine.{reply_line};
 ghost use Rattle.vl_model.specs.Steps.{Step};
+ghost use Rattle.vl_model.specs.Taken.{IsTaken};
 ghost use Rattle.vl_values.specs.declared.reply.Reply.{Reply as AReply};
 ghost use Rattle.vtgate_cl.specs.Playing.{Halts, Refuses};
 ghost use Rattle.vtgate_cl.specs.Script.{Answers, fault_line, line_limit, count_limit};
@@ -20,7 +21,7 @@ use std::alloc::Global;
 use vl_base::{Sink, write_all};
 use vl_cluster::told::Told;
 use vl_cluster::what::What;
-use vl_model::stmt::Stmt;
+use vl_sql::stmt::Stmt;
 use vl_values::reply::Reply;
 
 /// The most bytes of a line, without its LF and a CR before that.
@@ -56,7 +57,10 @@ pub fn answer<O: Sink>(
     if text.len() > LINE_LIMIT {
         return Err(refuse(alloc, count, out));
     }
-    let Some(line) = line_of(text) else {
+    let Ok(found) = line_of(alloc, text) else {
+        return Err(Stop::Memory);
+    };
+    let Some(line) = found else {
         return Err(refuse(alloc, count, out));
     };
     match line {
@@ -83,7 +87,8 @@ pub fn refuse<O: Sink>(alloc: Global, count: u32, out: &mut O) -> Stop
 
 // Runs a statement and prints its reply.
 fn say<O: Sink>(alloc: Global, client: &mut Client, stmt: Stmt, out: &mut O) -> Result<(), Stop>
-    requires { client.old.at + 1 < last_event }
+    requires early { client.old.at + 1 < last_event }
+    requires taken { IsTaken stmt }
     ensures ok { OnOk result ((reply : AReply) × Step client.old.rows stmt reply client.new.rows × Appends (O.held out.old) (O.held out.new) (reply_line (codes "s1") reply)) }
     ensures err { IfErr result (BreaksOff client.old.rows stmt (O.held out.old) (O.held out.new)) }
     ensures at { client.new.at ≤ client.old.at + 2 }

@@ -8,7 +8,7 @@ use vl_cluster::ask::Ask;
 use vl_cluster::cluster::Cluster;
 use vl_cluster::pass::Pass;
 use vl_cluster::told::Told;
-use vl_model::stmt::Stmt;
+use vl_sql::stmt::Stmt;
 
 /// The client of a script: its session s1 over a core of its own. The session joins at its first
 /// statement.
@@ -32,6 +32,7 @@ impl Model for Client {
 
 impl Client {
     ghost use Rattle.vl_cluster.specs.View.{last_event};
+    ghost use Rattle.vl_model.specs.Taken.{IsTaken};
     ghost use Rattle.vtgate_cl.specs.Talk.{IsSaid};
 
     /// A client over empty shards.
@@ -51,7 +52,8 @@ impl Client {
     /// Runs a statement, at its first use in the second event, behind the join. After an error, which
     /// is want of memory for the join, no row has changed.
     pub fn say(&mut self, stmt: Stmt) -> Result<Told, AllocError>
-        requires { self.old.at + 1 < last_event }
+        requires early { self.old.at + 1 < last_event }
+        requires taken { IsTaken stmt }
         ensures ok { IfOk result (λ told. IsSaid self.old.rows stmt told.1 self.new.rows) }
         ensures err { OnErr result (self.new.rows ≡ self.old.rows) }
         ensures at { self.new.at ≤ self.old.at + 2 }

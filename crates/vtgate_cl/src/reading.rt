@@ -1,25 +1,27 @@
-ghost use Rattle.std.specs.Prelude.{◌≡◌, ℕ, List, ◌++◌, IsTrue, ◌↔◌, IfSome, IfNone};
+ghost use Rattle.std.specs.Prelude.{◌≡◌, ℕ, List, ◌++◌, IsTrue, ◌↔◌, IfOk, IfSome, IfNone};
 ghost use Rattle.vl_model.specs.ScriptLine.{Asks, IsSkipped};
-ghost use Rattle.vl_model.specs.declared.stmt.Stmt.{Stmt as AStmt};
+ghost use Rattle.vl_sql.specs.declared.stmt.Stmt.{Stmt as AStmt};
 ghost use Rattle.vtgate_cl.specs.Line.{IsLine};
 ghost use Rattle.vtgate_cl.specs.declared.script_line.ScriptLine.{ScriptLine as ALine};
 
 use crate::script_line::ScriptLine;
+use std::alloc::{AllocError, Global};
 use vl_insert_text::statement_of;
-use vl_model::stmt::Stmt;
+use vl_sql::stmt::Stmt;
 
 /// The line that a text says, or none where it is outside the grammar.
-pub fn line_of(text: &[u8]) -> Option<ScriptLine>
-    ensures some { IfSome result (λ line. IsLine text.now line) }
-    ensures none { IfNone result ((line : ALine) → IsLine text.now line → ⊥) }
+pub fn line_of(alloc: Global, text: &[u8]) -> Result<Option<ScriptLine>, AllocError>
+    ensures some { IfOk result (λ found. IfSome found (λ line. IsLine text.now line)) }
+    ensures none { IfOk result (λ found. IfNone found ((line : ALine) → IsLine text.now line → ⊥)) }
 {
     if is_skipped(text) {
-        return Some(ScriptLine::Skipped);
+        return Ok(Some(ScriptLine::Skipped));
     }
-    let Some(stmt) = asked(text) else {
-        return None;
-    };
-    Some(ScriptLine::Run(stmt))
+    match asked(alloc, text) {
+        Ok(Some(stmt)) => Ok(Some(ScriptLine::Run(stmt))),
+        Ok(None) => Ok(None),
+        Err(error) => Err(error),
+    }
 }
 
 fn is_skipped(text: &[u8]) -> bool
@@ -32,14 +34,14 @@ fn is_skipped(text: &[u8]) -> bool
 }
 
 // The statement of a `run` line.
-fn asked(text: &[u8]) -> Option<Stmt>
-    ensures some { IfSome result (λ stmt. Asks text.now stmt) }
-    ensures none { IfNone result ((stmt : AStmt) → Asks text.now stmt → ⊥) }
+fn asked(alloc: Global, text: &[u8]) -> Result<Option<Stmt>, AllocError>
+    ensures some { IfOk result (λ found. IfSome found (λ stmt. Asks text.now stmt)) }
+    ensures none { IfOk result (λ found. IfNone found ((stmt : AStmt) → Asks text.now stmt → ⊥)) }
 {
     let Some(said) = without_front(text, b"run s1 ") else {
-        return None;
+        return Ok(None);
     };
-    statement_of(said)
+    statement_of(alloc, said)
 }
 
 // What follows a front of the text.

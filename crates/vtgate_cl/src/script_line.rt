@@ -1,7 +1,7 @@
-use vl_model::stmt::Stmt;
+use vl_sql::stmt::Stmt;
 
 /// A line of a script.
-#[derive(Clone, Copy, Debug, PartialEq, Eq)]
+#[derive(Debug, Drop)]
 pub enum ScriptLine {
     /// Empty, or a comment: a line that begins with `#`.
     Skipped,
