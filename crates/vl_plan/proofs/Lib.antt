@@ -1,0 +1,16 @@
+pub mod Asking
+pub mod Assigning
+pub mod Changing
+pub mod Composing
+pub mod Counting
+pub mod Firsts
+pub mod FitsPlanned
+pub mod Gathering
+pub mod Matching
+pub mod Placing
+pub mod Resolving
+pub mod Routing
+pub mod Sorting
+pub mod Storing
+pub mod Targeting
+pub mod Testing

@@ -1,0 +1,8 @@
+use vl_values::value::Value;
+
+/// A column that UPDATE sets, and its new value.
+#[derive(Debug, Drop)]
+pub struct Setting {
+    pub column: usize,
+    pub value: Value,
+}
