@@ -1,0 +1,1 @@
+CREATE TABLE seq (id BIGINT NOT NULL, next_id BIGINT, cache BIGINT, PRIMARY KEY (id));
