@@ -6,6 +6,7 @@ ghost use Rattle.vl_vschema.specs.Document.{breaking, IsJson, IsLeastOf, IsRefus
 ghost use Rattle.vl_vschema.specs.Vschema.{items_named};
 
 use crate::catalog_kinds::CatalogKinds;
+use crate::file_name::FileName;
 use crate::finder::Finder;
 use crate::json::parse;
 use crate::keyspace_file::KeyspaceFile;
@@ -39,8 +40,8 @@ fn keyspace_file(alloc: Global, keyspace: &Value) -> Result<KeyspaceFile, AllocE
     Ok(KeyspaceFile {
         name: Bytes::from_slice(alloc, text_named(keyspace, "name").as_bytes())?,
         shards: Items::from_vec(texts(alloc, keyspace, "shards")?),
-        vschema: Bytes::from_slice(alloc, text_named(keyspace, "vschema").as_bytes())?,
-        schema: Bytes::from_slice(alloc, text_named(keyspace, "schema").as_bytes())?,
+        vschema: FileName::from_str(alloc, text_named(keyspace, "vschema"))?,
+        schema: FileName::from_str(alloc, text_named(keyspace, "schema"))?,
     })
 }
 

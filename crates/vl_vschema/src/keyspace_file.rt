@@ -1,3 +1,4 @@
+use crate::file_name::FileName;
 use vl_values::bytes::Bytes;
 use vl_values::items::Items;
 
@@ -8,7 +9,7 @@ pub struct KeyspaceFile {
     /// The texts of the key ranges of its shards.
     pub shards: Items<Bytes>,
     /// The name of its VSchema file.
-    pub vschema: Bytes,
+    pub vschema: FileName,
     /// The name of its schema file.
-    pub schema: Bytes,
+    pub schema: FileName,
 }

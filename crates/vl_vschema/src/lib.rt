@@ -9,6 +9,7 @@
 mod breaks;
 mod catalog_file;
 mod catalog_kinds;
+mod file_name;
 mod finder;
 mod ignored;
 mod json;
@@ -37,6 +38,8 @@ mod walk;
 mod wrong_column_vindex;
 
 pub use crate::catalog_file::read_catalog;
+pub use crate::file_name::FileName;
 pub use crate::keyspace_file::KeyspaceFile;
+pub use crate::listing::listing_of;
 pub use crate::vschema_fault::VschemaFault;
 pub use crate::vschema_file::read_vschema;

@@ -41,6 +41,24 @@ fn as_bytes(alloc: Global, paths: Vec<Path>) -> Result<Vec<Bytes>, AllocError>
     Ok(bytes)
 }
 
+fn as_paths(alloc: Global, bytes: Vec<Bytes>) -> Result<Vec<Path>, AllocError>
+    ensures { IfOk result (λ paths. paths.items ≡ bytes.items) }
+{
+    let mut paths = Vec::with_capacity(alloc, bytes.len())?;
+    for path in bytes {
+        paths.push(Path::from_bytes(path))?;
+    }
+    Ok(paths)
+}
+
+/// Each of the paths once, by their bytes.
+pub fn listing_of(alloc: Global, paths: Vec<Bytes>) -> Result<Items<Bytes>, AllocError>
+    ensures { IfOk result (IsListing paths.items) }
+{
+    let bytes = as_bytes(alloc, in_order(as_paths(alloc, paths)?))?;
+    Ok(Items::from_vec(bytes))
+}
+
 impl Listing {
     pub(crate) fn new(alloc: Global) -> Listing
         ensures { result ≡ [] }

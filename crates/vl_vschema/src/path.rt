@@ -60,6 +60,14 @@ impl Path {
         Ok(Path { bytes })
     }
 
+    pub(crate) fn from_bytes(bytes: Bytes) -> Path
+        ensures { result ≡ bytes }
+    {
+        Path {
+            bytes: bytes.into_vec(),
+        }
+    }
+
     pub(crate) fn into_bytes(self) -> Bytes
         ensures { result ≡ self }
     {

@@ -233,8 +233,8 @@ fn the_keyspaces_of_a_catalog_are_read(rt: HostRuntime) -> Result<(), Fail> {
     for (keyspace, (name, shards, vschema, schema)) in keyspaces.as_slice().iter().zip(table) {
         assert!(rt; keyspace.name.as_slice() == name.as_bytes());
         assert!(rt; joined(rt.alloc(), &keyspace.shards)?.as_slice() == shards.as_bytes());
-        assert!(rt; keyspace.vschema.as_slice() == vschema.as_bytes());
-        assert!(rt; keyspace.schema.as_slice() == schema.as_bytes());
+        assert!(rt; keyspace.vschema.as_str() == vschema);
+        assert!(rt; keyspace.schema.as_str() == schema);
     }
     Ok(())
 }
