@@ -49,3 +49,16 @@ place catalog table row = option_and_then (λ t. place_in catalog t row) (slice_
 -- the keyspace id of a row of this table
 abbrev pub ksid_of : Catalog → ℕ → List Value → Option (List ℕ)
 ksid_of catalog table row = option_and_then (λ t. ksid_in t row) (slice_get catalog.tables table)
+
+-- the shard of the rows of this table that have a value in the column of its primary vindex; where the
+-- table has none, the one shard of its keyspace
+abbrev pub value_place_by : List (List Range) → ℕ → Option Primary → Value → Option ℕ
+value_place_by rings k None value = Some (first_shard rings k)
+value_place_by rings k (Some primary) value = option_map (shard_in rings k) (ksid_of_value primary.vindex value)
+
+abbrev pub place_of_value : Catalog → ℕ → Value → Option ℕ
+place_of_value catalog table value = option_and_then (λ t. value_place_by catalog.rings t.keyspace t.primary value) (slice_get catalog.tables table)
+
+-- how many shards keyspace k has
+abbrev pub shards_in : List (List Range) → ℕ → ℕ
+shards_in rings k = length (slice_index_or rings k [])

@@ -5,7 +5,7 @@ use crate::keyspace::Keyspace;
 use crate::keyspace_parts::KeyspaceParts;
 use crate::ksid::Ksid;
 use crate::lookup::Lookup;
-use crate::place::{ksid_at, place_by, shards_counted};
+use crate::place::{first_shard, ksid_at, place_by, shards_counted, shards_in, value_place_by};
 use crate::table::Table;
 use crate::{ShardNo, TableNo};
 use std::alloc::{AllocError, Global};
@@ -30,7 +30,7 @@ impl Catalog {
     ghost use Rattle.std.specs.Option.{SomeIff};
     ghost use Rattle.vl_catalog.specs.Build.{catalog_of};
     ghost use Rattle.vl_catalog.specs.CatalogA.{catalog_a};
-    ghost use Rattle.vl_catalog.specs.Place.{ksid_of, place, shard_count};
+    ghost use Rattle.vl_catalog.specs.Place.{first_shard, ksid_of, place, place_of_value, shard_count, shards_in};
 
     /// The catalog that the parts of its keyspaces mean.
     pub fn build(alloc: Global, parts: Vec<KeyspaceParts>) -> Result<Catalog, AllocError>
@@ -74,6 +74,35 @@ impl Catalog {
             Some(table) => place_by(self.rings.as_slice(), table.keyspace, table.primary, row),
             None => None,
         }
+    }
+
+    /// The shard of the rows of a table that have this value in the column of its primary vindex, or the
+    /// one shard of a keyspace that isn't sharded. A value without a keyspace id has none.
+    pub fn place_of_value(&self, table: TableNo, value: &Value) -> Option<ShardNo>
+        requires shards { shard_count self.now.rings < 2 ^ 32 }
+        ensures { result ≡ place_of_value self.now table value.now }
+    {
+        match self.tables.as_slice().get(table as usize) {
+            Some(table) => {
+                value_place_by(self.rings.as_slice(), table.keyspace, table.primary, value)
+            }
+            None => None,
+        }
+    }
+
+    /// The number of a keyspace's first shard.
+    pub fn first_shard(&self, keyspace: usize) -> ShardNo
+        requires shards { shard_count self.now.rings < 2 ^ 32 }
+        ensures { result ≡ first_shard self.now.rings keyspace }
+    {
+        first_shard(self.rings.as_slice(), keyspace)
+    }
+
+    /// How many shards a keyspace has. Their numbers follow that of its first shard.
+    pub fn shards_in(&self, keyspace: usize) -> usize
+        ensures { result ≡ shards_in self.now.rings keyspace }
+    {
+        shards_in(self.rings.as_slice(), keyspace)
     }
 
     /// The keyspace id of a row of a table.

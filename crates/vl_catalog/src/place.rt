@@ -2,7 +2,7 @@ ghost use Rattle.std.specs.Prelude.{◌≡◌, ℕ, ◌+◌, ◌^◌, ◌<◌, O
 ghost use Rattle.std.specs.List.{sum_by};
 ghost use Rattle.std.specs.Option.{option_copied, SomeIff};
 ghost use Rattle.vl_values.specs.declared.value.Value.TheVariants.{Null};
-ghost use Rattle.vl_catalog.specs.Place.{first_shard, ksid_by, place_by, shard_count, shard_in};
+ghost use Rattle.vl_catalog.specs.Place.{first_shard, ksid_by, place_by, shard_count, shard_in, shards_in, value_place_by};
 
 use crate::ShardNo;
 use crate::ksid::Ksid;
@@ -40,7 +40,7 @@ fn shard_count(rings: &[Ring]) -> u32
 }
 
 // The number of the first shard of a keyspace.
-fn first_shard(rings: &[Ring], keyspace: usize) -> u32
+pub(crate) fn first_shard(rings: &[Ring], keyspace: usize) -> u32
     requires { shard_count rings.now < 2 ^ 32 }
     ensures { result ≡ first_shard rings.now keyspace }
 {
@@ -89,5 +89,34 @@ pub(crate) fn place_by(
             None => None,
         },
         None => Some(first_shard(rings, keyspace)),
+    }
+}
+
+// The shard of the rows that have this value in the column of their table's primary vindex.
+pub(crate) fn value_place_by(
+    rings: &[Ring],
+    keyspace: usize,
+    primary: Option<Primary>,
+    value: &Value,
+) -> Option<ShardNo>
+    requires { shard_count rings.now < 2 ^ 32 }
+    ensures { result ≡ value_place_by rings.now keyspace primary value.now }
+{
+    match primary {
+        Some(primary) => match primary.vindex.ksid_of(value) {
+            Some(ksid) => Some(shard_in(rings, keyspace, ksid.as_slice())),
+            None => None,
+        },
+        None => Some(first_shard(rings, keyspace)),
+    }
+}
+
+// How many shards a keyspace has.
+pub(crate) fn shards_in(rings: &[Ring], keyspace: usize) -> usize
+    ensures { result ≡ shards_in rings.now keyspace }
+{
+    match rings.get(keyspace) {
+        Some(ring) => ring.ranges().len(),
+        None => 0,
     }
 }

@@ -23,7 +23,8 @@ use Rattle.vl_model.specs.Refusals.{faults, is_keyspace, refusals, refusals_besi
 use Rattle.vl_rules.specs.Order.{Checked}
 use Rattle.vl_rules.proofs.TablesKept.{table_kept}
 use Rattle.vl_plan.specs.declared.plan.Plan.{Plan}
-use Rattle.vl_plan.specs.Fits.{Fits, FitsPred, IsSettingOf}
+use Rattle.vl_catalog.specs.Fitting.{FitsPred}
+use Rattle.vl_plan.specs.Fits.{Fits, IsSettingOf}
 use Rattle.vl_plan.specs.Planned.{IsPlanned, planned_besides, planned_on, pred_of}
 use Rattle.vl_plan.proofs.Changing.{settings_fit}
 use Rattle.vl_plan.proofs.Composing.{with_table}

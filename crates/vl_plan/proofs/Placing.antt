@@ -28,7 +28,7 @@ use Rattle.vl_rules.specs.Kept.{HasPrimary, IsKeptTable}
 use Rattle.vl_rules.specs.Tables as rules
 use Rattle.vl_rules.proofs.Lists.{among_is_in}
 use Rattle.vl_rules.proofs.Passed.{at_number, not_false}
-use Rattle.vl_plan.specs.Fits.{IsRowOf}
+use Rattle.vl_catalog.specs.Fitting.{IsRowOf}
 use Rattle.vl_plan.specs.Planned.{values_of}
 use Rattle.vl_plan.proofs.Sorting.{no_member, split_member}
 use Rattle.vl_plan.proofs.Storing.{IsStoredRow, IsTaken, empty_parts, row_is_stored, stored_held, taken_parts}

@@ -24,7 +24,7 @@ use Rattle.vl_model.specs.Columns.{column_tested, compared, is_numbered, literal
 use Rattle.vl_model.specs.Refusals.{faults, unknown_among}
 use Rattle.vl_rules.proofs.Passed.{at_number, not_true}
 use Rattle.vl_values.specs.declared.test.Test.{Test}
-use Rattle.vl_plan.specs.Fits.{IsTestOf}
+use Rattle.vl_catalog.specs.Fitting.{IsTestOf}
 use Rattle.vl_plan.specs.Planned.{in_order, number_of, test_of, values_of}
 use Rattle.vl_plan.proofs.Sorting.{here, in_order_ascending, in_order_from, no_member, pairs_ascending, split_member, there}
 use Rattle.vl_plan.proofs.Storing.{empty_parts, passed_one, taken_parts}
