@@ -1,0 +1,11 @@
+pub mod Faults
+pub mod Files
+pub mod Ignored
+pub mod Lines
+pub mod Loading
+pub mod Names
+pub mod Reading
+pub mod Report
+pub mod Rings
+pub mod Text
+pub mod Turns
