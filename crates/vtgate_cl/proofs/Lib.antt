@@ -1,8 +1,11 @@
 pub mod Answering
+pub mod Batching
 pub mod Cases
+pub mod Checking
 pub mod Cuts
 pub mod Ending
 pub mod Going
 pub mod Grammar
 pub mod Input
 pub mod Telling
+pub mod Wording

@@ -1,3 +1,4 @@
+pub mod Check
 pub mod Client
 pub mod Line
 pub mod Player
@@ -5,3 +6,4 @@ pub mod Playing
 pub mod Script
 pub mod Status
 pub mod Talk
+pub mod Words

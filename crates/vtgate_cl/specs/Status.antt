@@ -1,20 +1,31 @@
--- The words and the statuses of the program, and what a status tells of the bytes that were read and printed.
-use Rattle.std.specs.Prelude.{◌≡◌, ℕ, List, [], ◌∷◌, ◌++◌, codes, map, string_bytes, String, Option, Some, Contains}
-use Rattle.std.specs.declared.alloc.Global.{Global}
+-- The statuses of the program, and what the status of a script tells of the bytes that were read and printed.
+use Rattle.std.specs.Prelude.{◌≡◌, ℕ, List, [], ◌∷◌, ◌++◌, Option, Some, Contains}
 use Rattle.std.specs.Io.KnownBytes.{Appends}
 use Rattle.vl_model.specs.Steps.{Rows}
 use Rattle.vtgate_cl.specs.declared.stop.Stop.{Stop}
 use Rattle.vtgate_cl.specs.declared.stop.Stop.TheVariants.{NotScript, Read, Write, Memory}
+use Rattle.vtgate_cl.specs.declared.words_fault.WordsFault.{WordsFault}
+use Rattle.vtgate_cl.specs.declared.words_fault.WordsFault.TheVariants as words_faults
 use Rattle.vtgate_cl.specs.Playing.{PlayedAt}
 use Rattle.vtgate_cl.specs.Script.{IsWhole, IsRefused, Begins}
 
--- the one word `script`
-abbrev pub IsScript : List (String Global) → Type 0
-IsScript words = map (λ word. string_bytes word) words ≡ codes "script" ∷ []
-
--- 0 at the end of the input, 1 for other words, 2 at a fault of a line, 3 and 4 at a fault of the source or the sink, 6 for want of memory
+-- 0 at the end of the input, 1 for words that aren't accepted, 2 at a fault of a line, 3 and 4 at a fault of
+-- the source or the sink, 6 for want of memory, 8 for a file that isn't loaded, 10 for a catalog that is refused
 abbrev pub IsStatus : ℕ → Type 0
-IsStatus = Contains (0 ∷ 1 ∷ 2 ∷ 3 ∷ 4 ∷ 6 ∷ [])
+IsStatus = Contains (0 ∷ 1 ∷ 2 ∷ 3 ∷ 4 ∷ 6 ∷ 8 ∷ 10 ∷ [])
+
+-- those of a script
+abbrev pub IsScriptStatus : ℕ → Type 0
+IsScriptStatus = Contains (0 ∷ 2 ∷ 3 ∷ 4 ∷ 6 ∷ [])
+
+-- those of words that aren't accepted: memory may be refused before that is known
+abbrev pub IsRefusalStatus : ℕ → Type 0
+IsRefusalStatus = Contains (1 ∷ 6 ∷ [])
+
+abbrev pub status_of_words : WordsFault → ℕ
+status_of_words words_faults.Refused = 1
+status_of_words (words_faults.Help text) = 1
+status_of_words words_faults.Memory = 6
 
 abbrev pub status_of : Stop → ℕ
 status_of NotScript = 2

@@ -4,12 +4,16 @@ use crate::batch::batch;
 use crate::status::Status;
 use std::alloc::{AllocError, Global};
 use std::test::Fail;
-use vl_base::{MemorySink, MemorySource, SteadySink, SteadySource};
+use vl_base::{MemoryFiles, MemorySink, MemorySource, SteadySink, SteadySource};
 
 fn one_word(alloc: Global, word: &str) -> Result<Vec<String>, AllocError> {
     let mut words = Vec::new(alloc);
     words.push(String::from_str(alloc, word)?)?;
     Ok(words)
+}
+
+fn no_files(alloc: Global) -> MemoryFiles {
+    MemoryFiles::new(alloc, Vec::new(alloc), Vec::new(alloc))
 }
 
 // The status of a script and what it prints, where a read gives at most `piece` bytes and a write takes
@@ -22,6 +26,7 @@ fn played(alloc: Global, script: &[u8], piece: usize) -> Result<(Status, Vec<u8>
     let status = batch(
         alloc,
         one_word(alloc, "script")?.as_slice(),
+        &mut no_files(alloc),
         &mut src,
         &mut out,
     );
@@ -155,7 +160,13 @@ fn faults_of_the_outside_end_a_script(rt: HostRuntime) -> Result<(), Fail> {
         let mut src = MemorySource::new(script.to_vec(alloc)?, 50, [failing_read].to_vec(alloc)?);
         let mut out = MemorySink::new(alloc, room, 20, [failing_write].to_vec(alloc)?)?;
         let words = one_word(alloc, "script")?;
-        let got = batch(alloc, words.as_slice(), &mut src, &mut out);
+        let got = batch(
+            alloc,
+            words.as_slice(),
+            &mut no_files(alloc),
+            &mut src,
+            &mut out,
+        );
         assert_eq!(rt; got, status, "{failing_read} {failing_write} {room}");
         assert_eq!(rt;
             out.bytes(),
@@ -179,7 +190,13 @@ fn other_words_are_refused(rt: HostRuntime) -> Result<(), Fail> {
     ] {
         let mut src = SteadySource::new(b"#".to_vec(alloc)?, 1);
         assert_eq!(rt;
-            batch(alloc, words.as_slice(), &mut src, &mut SteadySink),
+            batch(
+                alloc,
+                words.as_slice(),
+                &mut no_files(alloc),
+                &mut src,
+                &mut SteadySink
+            ),
             1
         );
         assert_eq!(rt; src.rest(), b"#".as_slice());

@@ -1,0 +1,6 @@
+use Rattle.vtgate_cl.proofs.Wording.{script_denied}
+use Rattle.vtgate_cl.proofs.words.read_script.Goals as goal
+
+pub returns-in-Err-clause-err : goal.returns-in-Err-clause-err
+returns-in-Err-clause-err c =
+    script_denied c.args.words.now c.in-Err.fault c.requires c.in-Err.ensures.err
