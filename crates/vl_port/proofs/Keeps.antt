@@ -21,7 +21,7 @@ use Rattle.vl_port.proofs.Naming.{is_who-true, is_who-same, apart_back, needs_ta
 -- ---- choices
 
 -- a choice is one of its two sides
-chosen : {X : Type 0} (b : Bool) (x y : X) → ((b ≡ true) × (cond b x y ≡ x)) ⊎ ((b ≡ false) × (cond b x y ≡ y))
+pub chosen : {X : Type 0} (b : Bool) (x y : X) → ((b ≡ true) × (cond b x y ≡ x)) ⊎ ((b ≡ false) × (cond b x y ≡ y))
 chosen true x y = inl (refl, refl)
 chosen false x y = inr (refl, refl)
 
@@ -33,19 +33,19 @@ rest : (a b : Bool) → a ≡ true → (a && b) ≡ false → b ≡ false
 rest true b h k = k
 rest false b h k = absurd (cc)
 
-some_one : {X : Type 0} (x y : X) → Some x ≡ Some y → x ≡ y
+pub some_one : {X : Type 0} (x y : X) → Some x ≡ Some y → x ≡ y
 some_one x y h = cc
 
-none_some : {X : Type 0} (x : X) → None ≡ Some x → ⊥
+pub none_some : {X : Type 0} (x : X) → None ≡ Some x → ⊥
 none_some x h = cc
 
 -- ---- a shard session opens
 
-opened_some : (incarnation : ℕ) (o : Option Opened) → is_some (opened_at incarnation o) ≡ true
+pub opened_some : (incarnation : ℕ) (o : Option Opened) → is_some (opened_at incarnation o) ≡ true
 opened_some incarnation None = refl
 opened_some incarnation (Some session) = refl
 
-open_stays : (b : Bool) (incarnation : ℕ) (o : Option Opened) → is_some o ≡ true → is_some (cond b (opened_at incarnation o) o) ≡ true
+pub open_stays : (b : Bool) (incarnation : ℕ) (o : Option Opened) → is_some o ≡ true → is_some (cond b (opened_at incarnation o) o) ≡ true
 open_stays true incarnation o h = opened_some incarnation o
 open_stays false incarnation o h = h
 
@@ -110,7 +110,7 @@ kept_written view who act kept free grouped = record {
 
 -- ---- a shard session ends
 
-dropped_some : (who : Who) (o : Option Change) (change : Change) → dropped who o ≡ Some change → (o ≡ Some change) × (is_who change.who who ≡ false)
+pub dropped_some : (who : Who) (o : Option Change) (change : Change) → dropped who o ≡ Some change → (o ≡ Some change) × (is_who change.who who ≡ false)
 dropped_some who None change h = absurd (cc)
 dropped_some who (Some c) change h =
     elim (chosen (is_who c.who who) None (Some c)) [

@@ -1,6 +1,10 @@
 pub mod Acting
+pub mod Counting
 pub mod Holding
 pub mod Keeping
+pub mod Placing
+pub mod Serving
+pub mod Transaction
 pub mod Reading
 pub mod View
 pub mod Taking

@@ -15,4 +15,6 @@ pub mod found_rows;
 pub mod limits;
 pub mod opened;
 pub mod port;
+pub mod shard_list;
+pub mod tx_state;
 pub mod who;

@@ -5,3 +5,4 @@ pub mod Doing
 pub mod Answering
 pub mod Leaving
 pub mod Banking
+pub mod Fitted

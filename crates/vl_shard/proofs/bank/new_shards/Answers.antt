@@ -2,7 +2,7 @@ use Rattle.std.proofs.Common.{◌+◌, List, sym, subst}
 use Rattle.vl_shard.specs.Parts.{Parts}
 use Rattle.vl_shard.specs.Banks.{AreNew}
 use Rattle.vl_shard.proofs.Banking.{new_more}
-use Rattle.vl_shard.proofs.bank.Bank.new.Goals as goal
+use Rattle.vl_shard.proofs.bank.new_shards.Goals as goal
 
 pub loop-preserved : goal.loop-preserved
 loop-preserved c =
