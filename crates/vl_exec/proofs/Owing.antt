@@ -1,0 +1,207 @@
+-- The rows that were found stand, under lock, until they are written.
+use Rattle.std.proofs.Common.{◌≡◌, ◌≢◌, ℕ, zero, suc, ◌+◌, ◌<◌, ◌≤◌, ◌⊎◌, inl, inr, Bool, true, false, cond, List, [], ◌∷◌, ◌++◌, length, Option, Some, None, refl, sym, ap, ◌∙◌, subst, arith}
+use Rattle.std.specs.Prelude.{◌||◌, Contains, slice_get}
+use Rattle.std.proofs.lemmas.Option.{same_Some}
+use Rattle.vl_values.specs.declared.group.Group.TheVariants.{Main}
+use Rattle.vl_values.specs.declared.key.Key.{Key}
+use Rattle.vl_values.specs.declared.pred.Pred.{Pred}
+use Rattle.vl_values.specs.Keyed.{is_key}
+use Rattle.vl_values.proofs.KeyOrder.{is_key-true}
+use Rattle.vl_catalog.specs.declared.catalog.Catalog.{Catalog}
+use Rattle.vl_port.specs.declared.act.Act.{Act}
+use Rattle.vl_port.specs.declared.act.Act.TheVariants.{Find}
+use Rattle.vl_port.specs.declared.answer.Answer.{Answer}
+use Rattle.vl_port.specs.declared.answer.Answer.TheVariants.{Done, Rows, Held}
+use Rattle.vl_port.specs.declared.change.Change.{Change}
+use Rattle.vl_port.specs.declared.tx_state.TxState.{TxState}
+use Rattle.vl_port.specs.declared.who.Who.{Who}
+use Rattle.vl_port.specs.Acting.{taken, written}
+use Rattle.vl_port.specs.Holding.{needs}
+use Rattle.vl_port.specs.Reading.{is_match, IsRead}
+use Rattle.vl_port.specs.Serving.{Shards}
+use Rattle.vl_port.specs.Transaction.{session_of}
+use Rattle.vl_port.specs.View.{View, Values, changed_to, is_who, standing, version_for}
+use Rattle.vl_exec.specs.declared.action.Action.{Action}
+use Rattle.vl_exec.specs.declared.search.Search.{Search}
+use Rattle.vl_exec.specs.Changes.{write_of, writes_of}
+use Rattle.vl_exec.specs.Effects.{AreOwed, AreOwedBy, IsOwed}
+use Rattle.vl_exec.specs.Making.{IsMade, IsSearch, IsWrite, written_key}
+use Rattle.vl_exec.specs.Progress.{Progress, has_read, with_try, with_write}
+use Rattle.vl_exec.specs.Stepping.{ActsOn}
+use Rattle.vl_exec.proofs.Dues.{IsDue, contains_at, done_writes, rows_read, search_is}
+use Rattle.vl_exec.proofs.Finding.{write_from, write_is}
+use Rattle.vl_exec.proofs.Goings.{Read, Waited, Went, Wrote}
+use Rattle.vl_exec.proofs.Keeping.{read_given, with_rows_is}
+use Rattle.vl_exec.proofs.Writings.{front_at, key_of_write, key_or_not, ordered_at, pending_other, precedes_apart, same_or_other}
+
+-- ---- one shard
+
+-- a key that stays as it was, and whose lock is the session's still
+pub record StaysOwn (old new : View) (who : Who) (key : Key) : Type 0 where
+  pub pending : new.pending key ≡ old.pending key
+  pub committed : new.committed key ≡ old.committed key
+  pub holder : old.holder key ≡ Some who → new.holder key ≡ Some who
+
+pub owed_on : (search : Search) (old new : View) (who : Who) (action : Action) → (owed : IsOwed search old who action) → StaysOwn old new who owed.key → IsOwed search new who action
+owed_on search old new who action owed stays = record {
+  key = owed.key;
+  row = owed.row;
+  is_write = owed.is_write;
+  stands = ap (λ (o : Option Change). version_for who o (new.committed owed.key)) stays.pending ∙ ap (version_for who (old.pending owed.key)) stays.committed ∙ owed.stands;
+  held = stays.holder owed.held;
+}
+
+still_holds : (b : Bool) (who : Who) (o : Option Who) → o ≡ Some who → cond b (Some who) o ≡ Some who
+still_holds true who o h = refl
+still_holds false who o h = h
+
+taken_own : (view : View) (who : Who) (act : Act) (key : Key) → StaysOwn view (taken who act view) who key
+taken_own view who act key = record { pending = refl; committed = refl; holder = λ h. still_holds (needs view act key) who (view.holder key) h }
+
+written_own : (view : View) (who : Who) (act : Act) (own key : Key) → IsWrite act → written_key act ≡ Some own → is_key own key ≡ false → StaysOwn view (written who act view) who key
+written_own view who act own key write is apart = record {
+  pending = pending_other view who act own key write is apart;
+  committed = refl;
+  holder = λ h. still_holds (needs view act key) who (view.holder key) h;
+}
+
+-- ---- all shards
+
+own_on : (old new : Shards) (who : Who) (action : Action) (answer : Answer) (key : Key) (s : ℕ) → ActsOn old who action.shard action.act answer new → (s ≡ action.shard → StaysOwn (old action.shard) (new action.shard) who key)
+    → (s ≡ action.shard) ⊎ (s ≢ action.shard) → StaysOwn (old s) (new s) who key
+own_on old new who action answer key s acts here (inl at) = subst (λ (n : ℕ). StaysOwn (old n) (new n) who key) (sym at) (here at)
+own_on old new who action answer key s acts here (inr other) = record {
+  pending = ap (λ (v : View). v.pending key) (acts.others s other);
+  committed = ap (λ (v : View). v.committed key) (acts.others s other);
+  holder = λ h. ap (λ (v : View). v.holder key) (acts.others s other) ∙ h;
+}
+
+-- the writes of a search that are still to be done are owed
+abbrev pub Owe : Search → List Action → ℕ → Shards → Who → Type 0
+Owe search writes done seen who = (n : ℕ) (action : Action) → done ≤ n → slice_get writes n ≡ Some action → IsOwed search (seen action.shard) who action
+
+-- what is owed is of the write's own key
+owed_key : (search : Search) (view : View) (who : Who) (action : Action) → (owed : IsOwed search view who action) → written_key action.act ≡ Some owed.key
+owed_key search view who action owed = (write_is search.change action.shard (owed.key, owed.row) action owed.is_write).key_is
+
+write_owes : (catalog : Catalog) (count : ℕ) (p : Progress) (search : Search) (action : Action) (who : Who) (old new : Shards) → IsSearch catalog count search p.writes → IsWrite action.act → slice_get p.writes p.done ≡ Some action
+    → ActsOn old who action.shard action.act Done new → Owe search p.writes p.done old who → Owe search p.writes (p.done + 1) new who
+write_owes catalog count p search action who old new is write at acts owe n other from at_other =
+    let owed = owe n other (omega (arith, from)) at_other in
+    let own = key_of_write action.act write in
+    let key_is = owed_key search (old other.shard) who other owed in
+    owed_on search (old other.shard) (new other.shard) who other owed
+    (own_on old new who action Done owed.key other.shard acts
+    (λ same. subst (λ (v : View). StaysOwn (old action.shard) v who owed.key) (sym acts.acted.2)
+    (written_own (old action.shard) who action.act own.0 owed.key write own.1
+    (elim (key_or_not own.0 owed.key) [
+      | inl key ↦ absurd (precedes_apart action other own.0 owed.key (ordered_at p.writes p.done n action other is.ordered (omega (arith, from)) at at_other) own.1 key_is (sym same) (is_key-true own.0 owed.key key))
+      | inr apart ↦ apart
+    ])))
+    (same_or_other other.shard action.shard))
+
+-- ---- a read
+
+or_first : (a b : Bool) → a ≡ true → (a || b) ≡ true
+or_first true b h = refl
+or_first false b h = cc
+
+or_second : (a b : Bool) → b ≡ true → (a || b) ≡ true
+or_second true b h = refl
+or_second false b h = h
+
+version_is : (who : Who) (o : Option Change) (committed : Option Values) → (version_for who o committed ≡ committed) ⊎ (version_for who o committed ≡ changed_to o)
+version_is who None committed = inl refl
+version_is who (Some change) committed = by (is_who change.who who)
+  where
+    by : (b : Bool) → (cond b change.row committed ≡ committed) ⊎ (cond b change.row committed ≡ change.row)
+    by true = inr refl
+    by false = inl refl
+
+-- a locking read needs the key of each row that it gives
+read_needs : (view : View) (who : Who) (pred : Pred) (key : Key) (row : Values) → standing view who key ≡ Some row → is_match pred key (Some row) ≡ true → needs view (Find pred true) key ≡ true
+read_needs view who pred key row stands match_ =
+    elim (version_is who (view.pending key) (view.committed key)) [
+      | inl committed ↦ or_first (is_match pred key (view.committed key)) (is_match pred key (changed_to (view.pending key))) (ap (is_match pred key) (sym committed ∙ stands) ∙ match_)
+      | inr own ↦ or_second (is_match pred key (view.committed key)) (is_match pred key (changed_to (view.pending key))) (ap (is_match pred key) (sym own ∙ stands) ∙ match_)
+    ]
+
+-- the writes of the rows that a locking read gave
+found_owed : (search : Search) (view : View) (who : Who) (pred : Pred) (rows : List (Key × Values)) (shard : ℕ) (action : Action) → IsRead view who pred rows → Contains (writes_of search.change shard rows) action
+    → (count : ℕ) → (action.shard ≡ shard) × IsOwed (has_read count search) (taken who (Find pred true) view) who action
+found_owed search view who pred rows shard action read among count =
+    let from = write_from search.change shard rows action among in
+    let is = write_is search.change shard from.found action from.gives in
+    let sound = read.sound from.found from.among in (
+      is.shard_is,
+      record {
+        key = from.found.0;
+        row = from.found.1;
+        is_write = ap (λ (s : ℕ). write_of search.change s from.found) is.shard_is ∙ from.gives;
+        stands = sound.0;
+        held = ap (λ (b : Bool). cond b (Some who) (view.holder from.found.0)) (read_needs view who pred from.found.0 from.found.1 sound.0 sound.1);
+      },
+    )
+
+-- an element of two lists one behind the other
+back_at : (xs ys : List Action) (n : ℕ) (one : Action) → length xs ≤ n → slice_get (xs ++ ys) n ≡ Some one → Contains ys one
+back_at [] ys n one from at = contains_at ys n one at
+back_at (x ∷ xs) ys zero one from at = absurd (omega (arith, from))
+back_at (x ∷ xs) ys (suc n) one from at = back_at xs ys n one (omega (arith, from)) at
+
+before_or_behind : (n k : ℕ) → (n < k) ⊎ (k ≤ n)
+before_or_behind n k = grind arith
+
+read_owes : (catalog : Catalog) (count : ℕ) (p : Progress) (search : Search) (action : Action) (who : Who) (rows : List (Key × Values)) (old new : Shards) → IsSearch catalog count search p.writes → action.act ≡ search.find
+    → ActsOn old who action.shard action.act (Rows rows) new → Owe search p.writes p.done old who → Owe (has_read (length rows) search) (p.writes ++ writes_of search.change action.shard rows) p.done new who
+read_owes catalog count p search action who rows old new is same acts owe n other from at_other =
+    elim (before_or_behind n (length p.writes)) [
+      | inl within ↦
+          let owed = owe n other from (front_at p.writes (writes_of search.change action.shard rows) n other within at_other) in
+          with_count (owed_on search (old other.shard) (new other.shard) who other owed
+          (own_on old new who action (Rows rows) owed.key other.shard acts (λ at. subst (λ (v : View). StaysOwn (old action.shard) v who owed.key) (sym acts.acted.2) (taken_own (old action.shard) who action.act owed.key)) (same_or_other other.shard action.shard)))
+      | inr behind ↦
+          let is_find = same ∙ is.find in
+          let found =
+          found_owed search (old action.shard) who is.pred rows action.shard other (read_given catalog count search (old action.shard) (new action.shard) who action.act rows p.writes is same acts.acted)
+          (back_at p.writes (writes_of search.change action.shard rows) n other behind at_other) (length rows) in
+          let here : new action.shard ≡ taken who (Find is.pred true) (old action.shard) = acts.acted.2 ∙ ap (λ (a : Act). taken who a (old action.shard)) is_find in
+          subst (λ (s : ℕ). IsOwed (has_read (length rows) search) (new s) who other) (sym found.0) (subst (λ (v : View). IsOwed (has_read (length rows) search) v who other) (sym here) found.1)
+    ]
+  where
+    with_count : {view : View} → IsOwed search view who other → IsOwed (has_read (length rows) search) view who other
+    with_count owed = record { key = owed.key; row = owed.row; is_write = owed.is_write; stands = owed.stands; held = owed.held }
+
+-- ---- the whole
+
+try_owes : (search : Search) (writes : List Action) (done : ℕ) (action : Action) (who : Who) (answer : Answer) (old new : Shards) → ((key : Key) → StaysOwn (old action.shard) (new action.shard) who key) → ActsOn old who action.shard action.act answer new
+    → Owe search writes done old who → Owe search writes done new who
+try_owes search writes done action who answer old new stays acts owe n other from at =
+    let owed = owe n other from at in
+    owed_on search (old other.shard) (new other.shard) who other owed (own_on old new who action answer owed.key other.shard acts (λ same. stays owed.key) (same_or_other other.shard action.shard))
+
+pub went_owes : (catalog : Catalog) (count limit : ℕ) (p new : Progress) (action : Action) (answer : Answer) (tx : TxState) (old after : Shards) (o : Option Search) → p.search ≡ o → IsMade catalog count limit p → IsDue p action
+    → ActsOn old (session_of tx Main) action.shard action.act answer after → Went p action limit new answer → AreOwedBy old tx o p → AreOwed after tx new
+went_owes catalog count limit p new action answer tx old after None none made is_due acts (Wrote is) owe =
+    subst (AreOwed after tx) (sym is) (subst (λ (o : Option Search). AreOwedBy after tx o (with_write p)) (sym none) tt)
+went_owes catalog count limit p new action answer tx old after (Some search) some made is_due acts (Wrote is) owe =
+    let at = done_writes catalog count limit p action (session_of tx Main) (old action.shard) (after action.shard) made is_due acts.acted in
+    subst (AreOwed after tx) (sym is)
+    (subst (λ (o : Option Search). AreOwedBy after tx o (with_write p)) (sym some)
+    (write_owes catalog count p search action (session_of tx Main) old after (search_is catalog count p search made.search some) (made.writes action (contains_at p.writes p.done action at)).write at acts owe))
+went_owes catalog count limit p new action answer tx old after None none made is_due acts (Read rows is) owe =
+    let due = rows_read catalog count limit p action (session_of tx Main) (old action.shard) (after action.shard) rows made is_due acts.acted in
+    absurd (cc (none, due.is))
+went_owes catalog count limit p new action answer tx old after (Some search) some made is_due acts (Read rows is) owe =
+    let due = rows_read catalog count limit p action (session_of tx Main) (old action.shard) (after action.shard) rows made is_due acts.acted in
+    let same : due.search ≡ search = same_Some due.search search (sym due.is ∙ some) in
+    let s = search_is catalog count p search made.search some in
+    subst (AreOwed after tx) (sym (is ∙ with_rows_is p search action.shard rows p.search some))
+    (read_owes catalog count p search action (session_of tx Main) rows old after s (due.same ∙ ap (λ (it : Search). it.find) same) acts owe)
+went_owes catalog count limit p new action answer tx old after None none made is_due acts (Waited by key is below) owe =
+    subst (AreOwed after tx) (sym is) (subst (λ (o : Option Search). AreOwedBy after tx o (with_try p)) (sym none) tt)
+went_owes catalog count limit p new action answer tx old after (Some search) some made is_due acts (Waited by key is below) owe =
+    subst (AreOwed after tx) (sym is)
+    (subst (λ (o : Option Search). AreOwedBy after tx o (with_try p)) (sym some)
+    (try_owes search p.writes p.done action (session_of tx Main) (Held by key) old after
+    (λ k. record { pending = ap (λ (v : View). v.pending k) acts.acted.1; committed = ap (λ (v : View). v.committed k) acts.acted.1; holder = λ h. ap (λ (v : View). v.holder k) acts.acted.1 ∙ h }) acts owe))

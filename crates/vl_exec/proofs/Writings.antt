@@ -1,0 +1,190 @@
+-- The writes that were done stand through each step after which the program goes on.
+use Rattle.std.proofs.Common.{◌≡◌, ◌≢◌, ℕ, ◌<◌, ◌≤◌, ◌⊎◌, inl, inr, Bool, true, false, cond, List, [], ◌++◌, length, get_or, Option, Some, None, refl, sym, ap, ◌∙◌, subst, arith, eqb-true}
+use Rattle.std.specs.Prelude.{◌==◌, slice_get}
+use Rattle.std.specs.List.{AllPairs}
+use Rattle.std.specs.Option.{option_map, option_map_or}
+use Rattle.std.specs.Ordering.{is_lt}
+use Rattle.std.proofs.lemmas.Bool.{cases_Bool, eqb-false}
+use Rattle.std.proofs.lemmas.Cmp.{tied_itself}
+use Rattle.std.proofs.lemmas.List.{get_or_append_left}
+use Rattle.std.proofs.lemmas.Option.{get_or_from_slice_get, same_Some, slice_get-get_or, slice_get_within}
+use Rattle.vl_values.specs.declared.group.Group.TheVariants.{Main}
+use Rattle.vl_values.specs.declared.key.Key.{Key}
+use Rattle.vl_values.specs.Keyed.{comes_before, is_key}
+use Rattle.vl_values.proofs.KeyOrder.{is_key-same, is_key-true, key_cmp_total}
+use Rattle.vl_catalog.specs.declared.catalog.Catalog.{Catalog}
+use Rattle.vl_port.specs.declared.act.Act.{Act}
+use Rattle.vl_port.specs.declared.act.Act.TheVariants.{Insert, Put, Remove, RemoveIf, Find}
+use Rattle.vl_port.specs.declared.answer.Answer.{Answer}
+use Rattle.vl_port.specs.declared.answer.Answer.TheVariants.{Done, Rows, Held}
+use Rattle.vl_port.specs.declared.change.Change.{Change}
+use Rattle.vl_port.specs.declared.tx_state.TxState.{TxState}
+use Rattle.vl_port.specs.declared.who.Who.{Who}
+use Rattle.vl_port.specs.Acting.{CanWrite, row_left, written}
+use Rattle.vl_port.specs.Holding.{needs}
+use Rattle.vl_port.specs.Serving.{Shards}
+use Rattle.vl_port.specs.Transaction.{session_of}
+use Rattle.vl_port.specs.View.{View, Values, standing, version_for}
+use Rattle.vl_port.proofs.Naming.{is_who-same}
+use Rattle.vl_exec.specs.declared.action.Action.{Action}
+use Rattle.vl_exec.specs.declared.search.Search.{Search}
+use Rattle.vl_exec.specs.Changes.{writes_of}
+use Rattle.vl_exec.specs.Effects.{HasWritten, IsWritten}
+use Rattle.vl_exec.specs.Making.{IsInsert, IsMade, IsSearchIn, IsWrite, Precedes, written_key}
+use Rattle.vl_exec.specs.Progress.{Progress, has_read, with_write}
+use Rattle.vl_exec.specs.Stepping.{ActsOn}
+use Rattle.vl_exec.proofs.Dues.{IsDue, contains_at, done_writes}
+use Rattle.vl_exec.proofs.Goings.{Read, Waited, Went, Wrote}
+
+-- ---- keys
+
+-- a write needs its own key alone
+needs_key : (view : View) (act : Act) (key k : Key) → IsWrite act → written_key act ≡ Some key → needs view act k ≡ is_key key k
+needs_key view (Insert own row) key k write is = ap (λ (x : Key). is_key x k) (same_Some own key is)
+needs_key view (Put own row) key k write is = ap (λ (x : Key). is_key x k) (same_Some own key is)
+needs_key view (Remove own) key k write is = ap (λ (x : Key). is_key x k) (same_Some own key is)
+needs_key view (RemoveIf own column value) key k write is = absurd write
+needs_key view (Find pred locking) key k write is = absurd write
+
+not_before_itself : (key : Key) → comes_before key key ≡ true → ⊥
+not_before_itself key h = cc (ap is_lt (tied_itself key_cmp_total key), h)
+
+-- ---- one write
+
+-- what was pending is, and a key that isn't this one keeps its version
+pub pending_other : (view : View) (who : Who) (act : Act) (key k : Key) → IsWrite act → written_key act ≡ Some key → is_key key k ≡ false → (written who act view).pending k ≡ view.pending k
+pending_other view who act key k write is apart =
+    ap (λ (b : Bool). cond b (Some (record { who = who; row = row_left act })) (view.pending k)) (needs_key view act key k write is ∙ apart)
+
+pending_own : (view : View) (who : Who) (act : Act) → IsWrite act → IsWritten (written who act view) who act
+pending_own view who act write key is =
+    ap (λ (b : Bool). cond b (Some (record { who = who; row = row_left act })) (view.pending key)) (needs_key view act key key write is ∙ is_key-same key)
+
+-- a row that the session has written stands for it
+stands_written : (view : View) (who : Who) (key : Key) (row : Option Values) → view.pending key ≡ Some (record { who = who; row = row }) → standing view who key ≡ row
+stands_written view who key row is =
+    ap (λ (o : Option Change). version_for who o (view.committed key)) is ∙ ap (λ (b : Bool). cond b row (view.committed key)) (is_who-same who)
+
+-- ---- two writes of one statement are of two keys
+
+-- an INSERT isn't done on a key that was inserted before
+insert_apart : (view : View) (who : Who) (one other : Act) (a b : Key) → IsInsert one → IsInsert other → written_key one ≡ Some a → written_key other ≡ Some b → IsWritten view who one → CanWrite view who other → a ≡ b → ⊥
+insert_apart view who (Insert k row) (Insert l new) a b io it ka lb stood can same =
+    let stands : standing view who l ≡ Some row =
+    stands_written view who l (Some row) (stood l (ka ∙ ap (λ (x : Key). Some x) (same ∙ sym (same_Some l b lb)))) in
+    cc (stands, can)
+insert_apart view who (Put k row) other a b io it ka lb stood can same = io
+insert_apart view who (Remove k) other a b io it ka lb stood can same = io
+insert_apart view who (RemoveIf k column value) other a b io it ka lb stood can same = io
+insert_apart view who (Find pred locking) other a b io it ka lb stood can same = io
+insert_apart view who (Insert k row) (Put l new) a b io it ka lb stood can same = it
+insert_apart view who (Insert k row) (Remove l) a b io it ka lb stood can same = it
+insert_apart view who (Insert k row) (RemoveIf l column value) a b io it ka lb stood can same = it
+insert_apart view who (Insert k row) (Find pred locking) a b io it ka lb stood can same = it
+
+-- no write that precedes another is of its key on its shard
+pub precedes_apart : (one other : Action) (a b : Key) → Precedes one other → written_key one.act ≡ Some a → written_key other.act ≡ Some b → one.shard ≡ other.shard → a ≡ b → ⊥
+precedes_apart one other a b (inl less) ka lb shards same = omega (arith, less, shards)
+precedes_apart one other a b (inr it) ka lb shards same = not_before_itself b (subst (λ (x : Key). comes_before x b ≡ true) same (it.1 a b ka lb))
+
+-- of two writes the one that stands before the other
+pub ordered_at : (writes : List Action) (m n : ℕ) (one other : Action) → AllPairs Precedes writes → m < n → slice_get writes m ≡ Some one → slice_get writes n ≡ Some other → Precedes one other
+ordered_at writes m n one other pairs below at_one at_other =
+    subst (λ (x : Action). Precedes x other) (get_or_from_slice_get writes m one other at_one)
+    (subst (λ (y : Action). Precedes (get_or writes m other) y) (get_or_from_slice_get writes n other other at_other) (pairs m n other below (slice_get_within writes n other at_other)))
+
+earlier_apart : (catalog : Catalog) (count : ℕ) (o : Option Search) (writes : List Action) (view : View) (who : Who) (m n : ℕ) (one other : Action) (a b : Key) → IsSearchIn catalog count o writes → m < n
+    → slice_get writes m ≡ Some one → slice_get writes n ≡ Some other → written_key one.act ≡ Some a → written_key other.act ≡ Some b → one.shard ≡ other.shard → IsWritten view who one.act → CanWrite view who other.act → a ≡ b → ⊥
+earlier_apart catalog count None writes view who m n one other a b is below at_one at_other ka lb shards stood can same =
+    insert_apart view who one.act other.act a b (is one (contains_at writes m one at_one)) (is other (contains_at writes n other at_other)) ka lb stood can same
+earlier_apart catalog count (Some search) writes view who m n one other a b is below at_one at_other ka lb shards stood can same =
+    precedes_apart one other a b (ordered_at writes m n one other is.ordered below at_one at_other) ka lb shards same
+
+-- ---- the shards
+
+pub same_or_other : (m n : ℕ) → (m ≡ n) ⊎ (m ≢ n)
+same_or_other m n = elim (cases_Bool (m == n)) [ inl same ↦ inl (eqb-true m n same) | inr apart ↦ inr (eqb-false m n apart) ]
+
+-- a write that was done before stands after another one
+stands_on : (old new : Shards) (who : Who) (action one : Action) (key own : Key) → ActsOn old who action.shard action.act Done new → IsWrite action.act → written_key action.act ≡ Some own → written_key one.act ≡ Some key
+    → (one.shard ≡ action.shard → is_key own key ≡ false) → (old one.shard).pending key ≡ Some (record { who = who; row = row_left one.act }) → (one.shard ≡ action.shard) ⊎ (one.shard ≢ action.shard)
+    → (new one.shard).pending key ≡ Some (record { who = who; row = row_left one.act })
+stands_on old new who action one key own acts write own_is key_is apart stood (inl same) =
+    subst (λ (s : ℕ). (old s).pending key ≡ Some (record { who = who; row = row_left one.act }) → (new s).pending key ≡ Some (record { who = who; row = row_left one.act })) (sym same)
+    (λ was. ap (λ (v : View). v.pending key) acts.acted.2 ∙ pending_other (old action.shard) who action.act own key write own_is (apart same) ∙ was) stood
+stands_on old new who action one key own acts write own_is key_is apart stood (inr other) = ap (λ (v : View). v.pending key) (acts.others one.shard other) ∙ stood
+
+pub key_of_write : (act : Act) → IsWrite act → (key : Key) × (written_key act ≡ Some key)
+key_of_write (Insert key row) write = (key, refl)
+key_of_write (Put key row) write = (key, refl)
+key_of_write (Remove key) write = (key, refl)
+key_of_write (RemoveIf key column value) write = absurd write
+key_of_write (Find pred locking) write = absurd write
+
+pub key_or_not : (a b : Key) → (is_key a b ≡ true) ⊎ (is_key a b ≡ false)
+key_or_not a b = cases_Bool (is_key a b)
+
+written_more : (catalog : Catalog) (count limit : ℕ) (p : Progress) (action : Action) (tx : TxState) (old new : Shards) → IsMade catalog count limit p → slice_get p.writes p.done ≡ Some action
+    → ActsOn old (session_of tx Main) action.shard action.act Done new → HasWritten old tx p → HasWritten new tx (with_write p)
+written_more catalog count limit p action tx old new made at acts before n one below at_one =
+    elim (same_or_other n p.done) [
+      | inl last ↦
+          let same : action ≡ one = same_Some action one (sym at ∙ ap (slice_get p.writes) (sym last) ∙ at_one) in
+          subst (λ (d : Action). IsWritten (new d.shard) (session_of tx Main) d.act) same
+          (subst (λ (v : View). IsWritten v (session_of tx Main) action.act) (sym acts.acted.2) (pending_own (old action.shard) (session_of tx Main) action.act (made.writes action (contains_at p.writes p.done action at)).write))
+      | inr earlier ↦
+          let less : n < p.done = omega (arith, below, earlier) in
+          let is_write = (made.writes action (contains_at p.writes p.done action at)).write in
+          let own = key_of_write action.act is_write in
+          λ key key_is.
+          stands_on old new (session_of tx Main) action one key own.0 acts is_write own.1 key_is
+          (λ shards. elim (key_or_not own.0 key) [
+            | inl same ↦
+                absurd
+                (earlier_apart catalog count p.search p.writes (old action.shard) (session_of tx Main) n p.done one action key own.0 made.search less at_one at key_is own.1 shards
+                (subst (λ (s : ℕ). IsWritten (old s) (session_of tx Main) one.act) shards (before n one less at_one)) acts.acted.1 (sym (is_key-true own.0 key same)))
+            | inr apart ↦ apart
+          ])
+          (before n one less at_one key key_is) (same_or_other one.shard action.shard)
+    ]
+
+-- ---- other answers
+
+-- no answer but `Done` changes a pending version
+pending_stays : (old new : Shards) (who : Who) (action : Action) (answer : Answer) (key : Key) (s : ℕ) → ActsOn old who action.shard action.act answer new → (new action.shard).pending key ≡ (old action.shard).pending key
+    → (new s).pending key ≡ (old s).pending key
+pending_stays old new who action answer key s acts same =
+    elim (same_or_other s action.shard) [
+      | inl at ↦ subst (λ (n : ℕ). (new n).pending key ≡ (old n).pending key) (sym at) same
+      | inr other ↦ ap (λ (v : View). v.pending key) (acts.others s other)
+    ]
+
+read_stays : (old new : Shards) (tx : TxState) (p : Progress) (action : Action) (answer : Answer) → ((key : Key) → (new action.shard).pending key ≡ (old action.shard).pending key) → ActsOn old (session_of tx Main) action.shard action.act answer new
+    → HasWritten old tx p → HasWritten new tx p
+read_stays old new tx p action answer same acts before n one below at key key_is = pending_stays old new (session_of tx Main) action answer key one.shard acts (same key) ∙ before n one below at key key_is
+
+-- more writes are known behind those that are done
+pub front_at : (xs ys : List Action) (n : ℕ) (one : Action) → n < length xs → slice_get (xs ++ ys) n ≡ Some one → slice_get xs n ≡ Some one
+front_at xs ys n one within at =
+    slice_get-get_or xs n one within ∙ ap (λ (d : Action). Some d) (sym (get_or_append_left xs ys one n within) ∙ get_or_from_slice_get (xs ++ ys) n one one at)
+
+more_known : (seen : Shards) (tx : TxState) (p : Progress) (more : List Action) (search : Option Search) (tries : ℕ) → p.done ≤ length p.writes → HasWritten seen tx p
+    → HasWritten seen tx (record { search = search; writes = p.writes ++ more; done = p.done; tries = tries })
+more_known seen tx p more search tries within before n one below at = before n one below (front_at p.writes more n one (omega (arith, below, within)) at)
+
+-- the transaction's main session is the same
+pub same_tx : (seen : Shards) (tx new : TxState) (p : Progress) → session_of new Main ≡ session_of tx Main → HasWritten seen tx p → HasWritten seen new p
+same_tx seen tx new p same before n one below at = subst (λ (w : Who). IsWritten (seen one.shard) w one.act) (sym same) (before n one below at)
+
+-- ---- the whole
+
+pub went_written : (catalog : Catalog) (count limit : ℕ) (p new : Progress) (action : Action) (answer : Answer) (tx : TxState) (old after : Shards) → IsMade catalog count limit p → IsDue p action
+    → ActsOn old (session_of tx Main) action.shard action.act answer after → Went p action limit new answer → HasWritten old tx p → HasWritten after tx new
+went_written catalog count limit p new action answer tx old after made is_due acts (Wrote is) before =
+    subst (HasWritten after tx) (sym is)
+    (written_more catalog count limit p action tx old after made (done_writes catalog count limit p action (session_of tx Main) (old action.shard) (after action.shard) made is_due acts.acted) acts before)
+went_written catalog count limit p new action answer tx old after made is_due acts (Read rows is) before =
+    subst (HasWritten after tx) (sym is)
+    (more_known after tx p (option_map_or (λ (search : Search). writes_of search.change action.shard rows) p.search []) (option_map (has_read (length rows)) p.search) 0 made.done (read_stays old after tx p action (Rows rows) (λ key. ap (λ (v : View). v.pending key) acts.acted.2) acts before))
+went_written catalog count limit p new action answer tx old after made is_due acts (Waited by key is below) before =
+    subst (HasWritten after tx) (sym is) (read_stays old after tx p action (Held by key) (λ k. ap (λ (v : View). v.pending k) acts.acted.1) acts before)

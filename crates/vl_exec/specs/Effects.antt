@@ -1,0 +1,57 @@
+-- What a statement has done so far, as the shards show it.
+use Rattle.std.specs.Prelude.{◌≡◌, ◌<◌, ◌≤◌, ℕ, true, slice_get, Option, Some, None}
+use Rattle.vl_values.specs.declared.group.Group.TheVariants.{Main}
+use Rattle.vl_values.specs.declared.key.Key.{Key}
+use Rattle.vl_values.specs.declared.reply.Reply.TheVariants as replies
+use Rattle.vl_port.specs.declared.act.Act.{Act}
+use Rattle.vl_port.specs.declared.tx_state.TxState.{TxState}
+use Rattle.vl_port.specs.declared.who.Who.{Who}
+use Rattle.vl_port.specs.Acting.{row_left}
+use Rattle.vl_port.specs.Serving.{Shards}
+use Rattle.vl_port.specs.Transaction.{session_of}
+use Rattle.vl_port.specs.View.{View, Values, standing}
+use Rattle.vl_exec.specs.declared.action.Action.{Action}
+use Rattle.vl_exec.specs.declared.program_told.ProgramTold.{ProgramTold}
+use Rattle.vl_exec.specs.declared.program_told.ProgramTold.TheVariants as told
+use Rattle.vl_exec.specs.declared.search.Search.{Search}
+use Rattle.vl_exec.specs.Changes.{write_of}
+use Rattle.vl_exec.specs.Making.{written_key}
+use Rattle.vl_exec.specs.Progress.{Progress}
+
+-- the row of the write, or its removal, is the session's pending version of its key
+abbrev pub IsWritten : View → Who → Act → Type 0
+IsWritten view who act = (key : Key) → written_key act ≡ Some key → view.pending key ≡ Some (record { who = who; row = row_left act })
+
+-- each write that was done stands
+abbrev pub HasWritten : Shards → TxState → Progress → Type 0
+HasWritten seen tx p = (n : ℕ) (action : Action) → n < p.done → slice_get p.writes n ≡ Some action → IsWritten (seen action.shard) (session_of tx Main) action.act
+
+-- the write is the change of the row that the session sees, and has the lock of
+pub record IsOwed (search : Search) (view : View) (who : Who) (action : Action) : Type 0 where
+  pub key : Key
+  pub row : Values
+  pub is_write : write_of search.change action.shard (key, row) ≡ Some action
+  pub stands : standing view who key ≡ Some row
+  pub held : view.holder key ≡ Some who
+
+abbrev pub AreOwedBy : Shards → TxState → Option Search → Progress → Type 0
+AreOwedBy seen tx None p = Unit {0}
+AreOwedBy seen tx (Some search) p = (n : ℕ) (action : Action) → p.done ≤ n → slice_get p.writes n ≡ Some action → IsOwed search (seen action.shard) (session_of tx Main) action
+
+-- the rows that were found stand, under lock, until they are written
+abbrev pub AreOwed : Shards → TxState → Progress → Type 0
+AreOwed seen tx p = AreOwedBy seen tx p.search p
+
+-- ---- a refusal
+
+-- the reply says that a transaction stays open whose statement was refused
+abbrev pub LeavesOpen : ProgramTold → Type 0
+LeavesOpen told.More = ⊥
+LeavesOpen (told.Held by key tries) = ⊥
+LeavesOpen (told.Reply (replies.Ok affected found warnings tx auto)) = ⊥
+LeavesOpen (told.Reply (replies.Err code why tx)) = tx ≡ true
+
+-- each key of each shard has the versions that it had
+pub record HasVersionsOf (old new : Shards) : Type 0 where
+  pub pending : (shard : ℕ) (key : Key) → (new shard).pending key ≡ (old shard).pending key
+  pub committed : (shard : ℕ) (key : Key) → (new shard).committed key ≡ (old shard).committed key

@@ -1,0 +1,8 @@
+pub mod Answering
+pub mod Begun
+pub mod Changes
+pub mod Effects
+pub mod Making
+pub mod Progress
+pub mod Stepping
+pub mod Visiting

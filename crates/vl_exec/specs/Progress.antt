@@ -1,0 +1,74 @@
+-- How far a statement has come: the action that is due, and what is left after one.
+use Rattle.std.specs.Prelude.{◌≡◌, ◌<◌, ◌⊎◌, ℕ, ◌+◌, ◌-◌, ◌==◌, Bool, not, List, [], ◌++◌, length, slice_get, Option, Some, None}
+use Rattle.std.specs.Option.{option_map, option_map_or, option_or}
+use Rattle.vl_values.specs.declared.key.Key.{Key}
+use Rattle.vl_values.specs.declared.value.Value.{Value}
+use Rattle.vl_exec.specs.declared.action.Action.{Action}
+use Rattle.vl_exec.specs.declared.row_change.RowChange.{RowChange}
+use Rattle.vl_exec.specs.declared.row_change.RowChange.TheVariants.{Remove, Set}
+use Rattle.vl_exec.specs.declared.search.Search.{Search}
+use Rattle.vl_exec.specs.Changes.{writes_of}
+
+-- the search for rows, if the statement has one; the writes that are known so far, and how many of them
+-- are done; how often the action that is due was answered `Held`
+pub record Progress : Type 0 where
+  pub search : Option Search
+  pub writes : List Action
+  pub done : ℕ
+  pub tries : ℕ
+
+-- the next locking read
+abbrev pub read_due : Search → Option Action
+read_due search = option_map (λ shard. record { shard = shard; act = search.find; old = None }) (slice_get search.shards search.read)
+
+abbrev pub read_due_in : Option Search → Option Action
+read_due_in None = None
+read_due_in (Some search) = read_due search
+
+-- the action that is due: all reads come before the writes
+abbrev pub due : Progress → Option Action
+due p = option_or (read_due_in p.search) (slice_get p.writes p.done)
+
+-- a write was done
+abbrev pub with_write : Progress → Progress
+with_write p = record p { done = p.done + 1; tries = 0 }
+
+abbrev pub has_read : ℕ → Search → Search
+has_read count search = record search { read = search.read + 1; found = search.found + count }
+
+-- a read gave these rows of a shard
+abbrev pub with_rows : ℕ → List (Key × List Value) → Progress → Progress
+with_rows shard rows p = record p {
+  search = option_map (has_read (length rows)) p.search;
+  writes = p.writes ++ option_map_or (λ (search : Search). writes_of search.change shard rows) p.search [];
+  tries = 0;
+}
+
+-- the action that is due was answered `Held` once more
+abbrev pub with_try : Progress → Progress
+with_try p = record p { tries = p.tries + 1 }
+
+-- how many rows were found: those that an UPDATE read, else those that were written
+abbrev pub found_by : RowChange → ℕ → ℕ → ℕ
+found_by Remove found done = done
+found_by (Set settings) found done = found
+
+abbrev pub found : Progress → ℕ
+found p = option_map_or (λ (search : Search). found_by search.change search.found p.done) p.search p.done
+
+-- whether the statement has written
+abbrev pub has_written : Progress → Bool
+has_written p = not (p.done == 0)
+
+-- ---- the end of a statement
+
+-- how many shards are still to be read, and how many writes of those that are known still to be done
+abbrev pub reads_left : Progress → ℕ
+reads_left p = option_map_or (λ (search : Search). length search.shards - search.read) p.search 0
+
+abbrev pub writes_left : Progress → ℕ
+writes_left p = length p.writes - p.done
+
+-- nearer to the statement's end: a read is done, or a write and no read comes in its place
+abbrev pub IsNearer : Progress → Progress → Type 0
+IsNearer old new = (reads_left new < reads_left old) ⊎ ((reads_left new ≡ reads_left old) × (writes_left new < writes_left old))

@@ -1,0 +1,12 @@
+use vl_port::act::Act;
+use vl_values::ShardNo;
+use vl_values::row::Row;
+
+/// An action that is to be done on a shard.
+#[derive(Drop)]
+pub struct Action {
+    pub shard: ShardNo,
+    pub act: Act,
+    /// The row that was found and is written by this; none where the statement found none.
+    pub old: Option<Row>,
+}

@@ -1,0 +1,24 @@
+// Statements on shards, one action at a time.
+//
+// A `Program` is made of a plan: its rows with their shards, or the shards on which rows are to be found.
+// Each `step` does the action that is due, on one shard, by the transaction's main session, and tells
+// whether another one is due, whether it is to be tried again, or the reply. The layer above relies on
+// `Stepped`: the action is the one that the statement owes, it is done once unless it was `Held`, and the
+// reply is that of the port's answer. It stands on the port alone and knows no shard.
+//
+// Programs run INSERT, UPDATE and DELETE of tables without lookups.
+#![tactic(auto)]
+
+pub mod action;
+mod actions;
+mod answering;
+mod changes;
+pub mod program;
+pub mod program_told;
+pub mod row_change;
+pub mod running;
+pub mod search;
+mod starting;
+#[cfg(test)]
+mod tests;
+mod visiting;

@@ -1,0 +1,399 @@
+ghost use Rattle.std.specs.Prelude.{◌≡◌, ◌≢◌, ◌<◌, ◌≤◌, ◌^◌, true, ℕ, IfOk, OnOk, OnErr, length};
+ghost use Rattle.std.specs.Option.{option_copied, option_map};
+ghost use Rattle.vl_values.specs.declared.cause.Cause.TheVariants as causes;
+ghost use Rattle.vl_port.specs.declared.answer.Answer.TheVariants as answers;
+ghost use Rattle.vl_port.specs.declared.who.Who.{Who as AWho};
+ghost use Rattle.vl_exec.specs.declared.action.Action.{Action as AnAction};
+ghost use Rattle.vl_exec.specs.declared.program_told.ProgramTold.TheVariants.{More};
+ghost use Rattle.vl_rules.specs.Order.{Checked};
+ghost use Rattle.vl_plan.specs.Fits.{Fits};
+ghost use Rattle.vl_port.specs.Serving.{Serves};
+ghost use Rattle.vl_port.specs.Transaction.{IsIn, last_tx};
+ghost use Rattle.vl_catalog.specs.Place.{shard_count};
+ghost use Rattle.vl_exec.specs.Answering.{Answered, Goes, IsWell, OrNoMemory, Waits, refused, refused_whole, reply_of};
+ghost use Rattle.vl_exec.specs.Begun.{begun, can_run, searching, writing};
+ghost use Rattle.vl_exec.specs.Effects.{AreOwed, HasVersionsOf, HasWritten, LeavesOpen};
+ghost use Rattle.vl_exec.specs.Making.{IsMade};
+ghost use Rattle.vl_exec.specs.Progress.{IsNearer, due, found, has_written, with_rows, with_write};
+ghost use Rattle.vl_exec.specs.Stepping.{Stepped};
+
+use crate::actions::Actions;
+use crate::answering::{ask, duplicate, lock_wait};
+use crate::program_told::ProgramTold;
+use crate::row_change::RowChange;
+use crate::search::Search;
+use crate::starting::insertions;
+use crate::visiting::{each_covers, visited};
+use std::alloc::{AllocError, Global};
+use std::marker::Model;
+use vl_catalog::Catalog;
+use vl_model::route::Route;
+use vl_plan::delete_plan::DeletePlan;
+use vl_plan::insert_plan::InsertPlan;
+use vl_plan::plan::Plan;
+use vl_plan::update_plan::UpdatePlan;
+use vl_port::act::Act;
+use vl_port::answer::Answer;
+use vl_port::found_rows::FoundRows;
+use vl_port::port::ShardPort;
+use vl_port::tx_state::TxState;
+use vl_text::shard_name;
+use vl_values::cause::Cause;
+use vl_values::group::Group;
+use vl_values::items::Items;
+use vl_values::key::Key;
+use vl_values::pred::Pred;
+use vl_values::reply::Reply;
+use vl_values::{SessionNo, ShardNo};
+
+/// A statement that is run, one action at a time.
+#[derive(Drop)]
+pub struct Program {
+    search: Option<Search>,
+    writes: Actions,
+    done: usize,
+    tries: u32,
+}
+
+impl Model for Program {
+    ghost use Rattle.vl_exec.specs.Progress.{Progress};
+
+    ghost Value = { Progress };
+
+    ghost view = { λ p. record { search = p.search; writes = p.writes; done = p.done; tries = p.tries } };
+}
+
+// The program of an INSERT, whose rows are written in their order.
+fn writing(writes: Actions) -> Program
+    ensures { result ≡ writing writes }
+{
+    Program {
+        search: None,
+        writes,
+        done: 0,
+        tries: 0,
+    }
+}
+
+// The program of an UPDATE or a DELETE, which finds its rows first.
+fn searching(
+    alloc: Global,
+    catalog: &Catalog,
+    pred: Pred,
+    route: &Route,
+    change: RowChange,
+) -> Result<Program, AllocError>
+    requires { shard_count catalog.now.rings < 2 ^ 32 }
+    ensures { IfOk result (λ program. program ≡ searching catalog.now pred route.now change) }
+{
+    let shards = visited(alloc, catalog, pred.table, route)?;
+    let search = Search {
+        find: Act::Find {
+            pred,
+            locking: true,
+        },
+        change,
+        shards: Items::from_vec(shards),
+        read: 0,
+        found: 0,
+    };
+    Ok(Program {
+        search: Some(search),
+        writes: Actions::from_vec(Vec::new(alloc)),
+        done: 0,
+        tries: 0,
+    })
+}
+
+fn begin(alloc: Global, catalog: &Catalog, plan: Plan) -> Result<Program, AllocError>
+    requires { shard_count catalog.now.rings < 2 ^ 32 }
+    ensures { IfOk result (λ program. program ≡ begun catalog.now plan) }
+{
+    match plan {
+        Plan::Insert(InsertPlan { table, rows }) => {
+            let actions = insertions(alloc, catalog, table, rows.into_vec())?;
+            Ok(writing(Actions::from_vec(actions)))
+        }
+        Plan::Update(
+            UpdatePlan {
+                settings,
+                pred,
+                route,
+            },
+        ) => searching(alloc, catalog, pred, &route, RowChange::Set(settings)),
+        Plan::Delete(DeletePlan { pred, route }) => {
+            searching(alloc, catalog, pred, &route, RowChange::Remove)
+        }
+        _ => Ok(writing(Actions::from_vec(Vec::new(alloc)))),
+    }
+}
+
+fn refusal_whole(why: Cause) -> ProgramTold
+    ensures { result ≡ refused_whole why }
+{
+    ProgramTold::Reply(Reply::refusal(why, false))
+}
+
+impl Program {
+    /// The program of a plan: an INSERT, an UPDATE or a DELETE of a table without lookups.
+    pub fn start(alloc: Global, catalog: &Catalog, plan: Plan) -> Result<Program, AllocError>
+        requires checked { Checked catalog.now }
+        requires fits { Fits catalog.now plan }
+        requires run { can_run catalog.now plan ≡ true }
+        ensures begun { IfOk result (λ program. program ≡ begun catalog.now plan) }
+        ensures made { IfOk result (λ program. (limit : ℕ) → 1 ≤ limit → IsMade catalog.now (shard_count catalog.now.rings) limit program) }
+    {
+        each_covers(catalog.rings.as_slice());
+        begin(alloc, catalog, plan)
+    }
+
+    // The shard of the action that is due.
+    fn due_shard(&self) -> Option<ShardNo>
+        ensures { result ≡ option_map (λ action. action.shard) (due self.now) }
+    {
+        if let Some(search) = &self.search {
+            if let Some(shard) = search.shards.as_slice().get(search.read) {
+                return Some(*shard);
+            }
+        }
+        match self.writes.as_slice().get(self.done) {
+            Some(action) => Some(action.shard),
+            None => None,
+        }
+    }
+
+    // Its act.
+    fn due_act(&self) -> Option<&Act>
+        ensures { option_copied result ≡ option_map (λ action. action.act) (due self.now) }
+    {
+        if let Some(search) = &self.search {
+            if search.read < search.shards.len() {
+                return Some(&search.find);
+            }
+        }
+        match self.writes.as_slice().get(self.done) {
+            Some(action) => Some(&action.act),
+            None => None,
+        }
+    }
+
+    // How many rows were found.
+    fn found(&self) -> u64
+        ensures { result ≡ found self.now }
+    {
+        match &self.search {
+            Some(search) => match search.change {
+                RowChange::Remove => self.done as u64,
+                RowChange::Set(_) => search.found,
+            },
+            None => self.done as u64,
+        }
+    }
+
+    fn reply(&self, tx: &TxState) -> ProgramTold
+        ensures { result ≡ reply_of tx.now self.now }
+    {
+        ProgramTold::Reply(Reply::Ok {
+            affected: self.done as u64,
+            found: self.found(),
+            warnings: 0,
+            tx: !tx.single,
+            auto: tx.auto,
+        })
+    }
+
+    fn has_written(&self) -> bool
+        ensures { result ≡ has_written self.now }
+    {
+        self.done != 0
+    }
+
+    fn refused(&self, tx: &TxState, why: Cause) -> ProgramTold
+        ensures { result ≡ refused tx.now self.now why }
+    {
+        let kept = !tx.single && !self.has_written();
+        ProgramTold::Reply(Reply::refusal(why, kept))
+    }
+
+    fn refused_for(&self, tx: &TxState, why: Result<Cause, AllocError>) -> ProgramTold
+        ensures ok { IfOk why (λ cause. result ≡ refused tx.now self.now cause) }
+        ensures err { OnErr why (result ≡ refused tx.now self.now causes.OutOfMemory) }
+    {
+        match why {
+            Ok(cause) => self.refused(tx, cause),
+            Err(_) => self.refused(tx, Cause::OutOfMemory),
+        }
+    }
+
+    // Whether another action is due, or the reply.
+    fn go(&self, tx: &TxState) -> ProgramTold
+        ensures { Goes tx.now self.now result self.now }
+    {
+        match self.due_shard() {
+            Some(_) => ProgramTold::More,
+            None => self.reply(tx),
+        }
+    }
+
+    // A write was done.
+    fn pass(&mut self)
+        requires { self.old.done < length self.old.writes }
+        ensures { self.new ≡ with_write self.old }
+    {
+        let known = self.writes.len();
+        if self.done < known {
+            self.done += 1;
+        }
+        self.tries = 0;
+    }
+
+    // A read gave these rows of a shard.
+    fn take(&mut self, alloc: Global, shard: ShardNo, rows: FoundRows) -> Result<(), AllocError>
+        ensures ok { OnOk result (self.new ≡ with_rows shard rows self.old) }
+        ensures err { OnErr result (self.new.done ≡ self.old.done) }
+    {
+        if let Some(search) = &mut self.search {
+            let more = search.add_found(alloc, shard, rows)?;
+            self.writes.append(more)?;
+        }
+        self.tries = 0;
+        Ok(())
+    }
+
+    // The action was answered `Held`: it is tried again, or the statement is refused.
+    fn wait(
+        &mut self,
+        alloc: Global,
+        catalog: &Catalog,
+        tx: &TxState,
+        by: SessionNo,
+        key: Key,
+    ) -> ProgramTold
+        requires { self.old.tries < tx.now.limits.tries }
+        ensures { Waits catalog.now tx.now self.old by key result self.new }
+    {
+        let limit = tx.limits.tries;
+        let tries = self.tries + 1;
+        if tries < limit {
+            self.tries = tries;
+            return ProgramTold::Held { by, key, tries };
+        }
+        let why = lock_wait(alloc, catalog, limit, by, &key);
+        self.refused_for(tx, why)
+    }
+
+    // What the port's answer to the action means.
+    fn answered(
+        &mut self,
+        alloc: Global,
+        catalog: &Catalog,
+        tx: &TxState,
+        shard: ShardNo,
+        answer: Answer,
+    ) -> ProgramTold
+        requires checked { Checked catalog.now }
+        requires tries { self.old.tries < tx.now.limits.tries }
+        requires done { answer ≡ answers.Done → self.old.done < length self.old.writes }
+        requires changed { answer ≡ answers.Unchanged → ⊥ }
+        requires memory { answer ≡ answers.Memory → ⊥ }
+        ensures { (action : AnAction) → action.shard ≡ shard → Answered catalog.now tx.now self.old action answer result self.new }
+    {
+        match answer {
+            Answer::Done => {
+                self.pass();
+                self.go(tx)
+            }
+            Answer::Rows(rows) => match self.take(alloc, shard, rows) {
+                Ok(()) => self.go(tx),
+                Err(_) => self.refused(tx, Cause::OutOfMemory),
+            },
+            Answer::Held { by, key } => self.wait(alloc, catalog, tx, by, key),
+            Answer::Found { key, row: _ } => {
+                let why = duplicate(alloc, catalog, shard, &key);
+                self.refused_for(tx, why)
+            }
+            Answer::Limit { what, count } => self.refused(tx, Cause::Limit { what, count }),
+            Answer::Lost(why) => refusal_whole(Cause::LostSession {
+                shard: shard_name(catalog, shard),
+                group: Group::Main,
+                why,
+            }),
+            Answer::Device => refusal_whole(Cause::DeviceFailed {
+                shard: shard_name(catalog, shard),
+            }),
+            Answer::Unchanged | Answer::Memory => self.refused(tx, Cause::OutOfMemory),
+        }
+    }
+
+    // Does the action that is due, on one shard.
+    fn advance<P: ShardPort>(
+        &mut self,
+        alloc: Global,
+        catalog: &Catalog,
+        port: &mut P,
+        tx: &mut TxState,
+    ) -> ProgramTold
+        requires checked { Checked catalog.now }
+        requires agree { P.catalog port.old ≡ catalog.now }
+        requires number { tx.old.number ≤ last_tx }
+        requires made { IsMade catalog.now (P.count port.old) tx.old.limits.tries self.old }
+        ensures stepped { Stepped catalog.now self.old tx.old (P.seen port.old) result self.new tx.new (P.seen port.new) }
+        ensures count { P.count port.new ≡ P.count port.old }
+        ensures catalog { P.catalog port.new ≡ P.catalog port.old }
+    {
+        let Some(shard) = self.due_shard() else {
+            return self.reply(tx);
+        };
+        let Some(act) = self.due_act() else {
+            return self.reply(tx);
+        };
+        let asked = ask(port, tx, shard, act);
+        match asked {
+            Some(answer) => self.answered(alloc, catalog, tx, shard, answer),
+            None => self.refused(tx, Cause::OutOfMemory),
+        }
+    }
+
+    /// Does the action that is due, on one shard, and tells what the statement's state is then.
+    ///
+    /// After a reply the program is over. A refusal before the first write leaves the transaction with
+    /// its locks, unless it is the statement's own; after it, and where a session was lost or a device
+    /// failed, the reply says that no transaction stays open, and all of it is to be rolled back.
+    pub fn step<P: ShardPort>(
+        &mut self,
+        alloc: Global,
+        catalog: &Catalog,
+        port: &mut P,
+        tx: &mut TxState,
+    ) -> ProgramTold
+        requires checked { Checked catalog.now }
+        requires agree { P.catalog port.old ≡ catalog.now }
+        requires serves { Serves catalog.now (P.count port.old) (P.seen port.old) }
+        requires sessions { IsIn tx.old (P.count port.old) (P.seen port.old) }
+        requires number { tx.old.number ≤ last_tx }
+        requires made { IsMade catalog.now (P.count port.old) tx.old.limits.tries self.old }
+
+        // One action, that which was due, its answer, and what that means.
+        ensures stepped { Stepped catalog.now self.old tx.old (P.seen port.old) result self.new tx.new (P.seen port.new) }
+
+        // The statement's writes stand, and the rows that it found do until they are written.
+        ensures written { HasWritten (P.seen port.old) tx.old self.old → IsWell result → HasWritten (P.seen port.new) tx.new self.new }
+        ensures owed { AreOwed (P.seen port.old) tx.old self.old → IsWell result → AreOwed (P.seen port.new) tx.new self.new }
+
+        // A refusal that leaves the transaction open has changed no version.
+        ensures kept { LeavesOpen result → HasVersionsOf (P.seen port.old) (P.seen port.new) }
+
+        // It comes to its end.
+        ensures bound { result ≡ More → IsNearer self.old self.new }
+
+        // What the next step asks for.
+        ensures made { IsWell result → IsMade catalog.now (P.count port.new) tx.new.limits.tries self.new }
+        ensures sessions { IsIn tx.new (P.count port.new) (P.seen port.new) }
+        // No session of another transaction opens or ends.
+        ensures foreign { (shard : ℕ) (who : AWho) → who.tx ≢ tx.old.number → (P.seen port.new shard).sessions who ≡ (P.seen port.old shard).sessions who }
+        ensures serves { Serves catalog.now (P.count port.new) (P.seen port.new) }
+        ensures agree { P.catalog port.new ≡ catalog.now }
+    {
+        self.advance(alloc, catalog, port, tx)
+    }
+}
