@@ -9,11 +9,12 @@ use Rattle.vl_catalog.specs.declared.catalog.Catalog.{Catalog}
 use Rattle.vl_port.specs.declared.act.Act.{Act}
 use Rattle.vl_port.specs.declared.answer.Answer.{Answer}
 use Rattle.vl_port.specs.declared.answer.Answer.TheVariants.{Done, Unchanged, Rows, Found, Held, Lost, Device, Limit, Memory}
+use Rattle.vl_port.specs.declared.limits.Limits.{Limits}
 use Rattle.vl_port.specs.declared.tx_state.TxState.{TxState}
 use Rattle.vl_port.specs.declared.who.Who.{Who}
 use Rattle.vl_port.specs.Acting.{Acted}
+use Rattle.vl_port.specs.Asking.{HasAsked, IsSameTx, IsUnasked, PortView}
 use Rattle.vl_port.specs.Placing.{IsActOn}
-use Rattle.vl_port.specs.Serving.{Shards}
 use Rattle.vl_port.specs.Transaction.{Enlists, session_of}
 use Rattle.vl_port.specs.View.{View}
 use Rattle.vl_exec.specs.declared.action.Action.{Action}
@@ -21,14 +22,29 @@ use Rattle.vl_exec.specs.declared.program_told.ProgramTold.{ProgramTold}
 use Rattle.vl_exec.specs.Answering.{Answered, TellsNext, WaitsOn, refused}
 use Rattle.vl_exec.specs.Making.{IsMade}
 use Rattle.vl_exec.specs.Progress.{Progress, due, with_rows, with_write}
-use Rattle.vl_exec.specs.Stepping.{AreSame, Did, HasAsked, NoRoom, Stepped}
+use Rattle.vl_exec.specs.Stepping.{Did, NoRoom, Stepped}
 use Rattle.vl_exec.proofs.Dues.{IsAt, done_writes, due_fits, due_is, never_unchanged}
 
 -- ---- the transaction is the same but for its list of sessions
 
-pub limits_kept : (tx new : TxState) (shard : ℕ) (added : Bool) → Enlists tx Main shard added new → new.limits.tries ≡ tx.limits.tries
-limits_kept tx new shard true h = ap (λ (t : TxState). t.limits.tries) h.1
-limits_kept tx new shard false h = ap (λ (t : TxState). t.limits.tries) h.1
+pub same_listed : (tx new : TxState) (shard : ℕ) (added : Bool) → Enlists tx Main shard added new → IsSameTx tx new
+same_listed tx new shard true h = record {
+  number = ap (λ (t : TxState). t.number) h.1;
+  session = ap (λ (t : TxState). t.session) h.1;
+  limits = ap (λ (t : TxState). t.limits) h.1;
+  auto = ap (λ (t : TxState). t.auto) h.1;
+  single = ap (λ (t : TxState). t.single) h.1;
+}
+same_listed tx new shard false h = record {
+  number = ap (λ (t : TxState). t.number) h.1;
+  session = ap (λ (t : TxState). t.session) h.1;
+  limits = ap (λ (t : TxState). t.limits) h.1;
+  auto = ap (λ (t : TxState). t.auto) h.1;
+  single = ap (λ (t : TxState). t.single) h.1;
+}
+
+pub limits_kept : (tx new : TxState) → IsSameTx tx new → new.limits.tries ≡ tx.limits.tries
+limits_kept tx new same = ap (λ (l : Limits). l.tries) same.limits
 
 next_for : (tx : TxState) (shards : List ℕ) (o : Option Action) (p : Progress) (tells : ProgramTold) → TellsNext (record tx { main = shards }) o p tells → TellsNext tx o p tells
 next_for tx shards None p tells h = h
@@ -71,27 +87,27 @@ along : (p : Progress) (shard : ℕ) (act : Act) (who : Who) (answer other : Ans
 along p shard act who answer other old new at is acted = subst (λ (a : Act). Acted old who a other new) (sym at.act_is) (subst (λ (it : Answer). Acted old who act it new) is acted)
 
 -- a port tells `Done` of a write alone, which is one of those that are still to be done
-pub done_within : (catalog : Catalog) (count limit : ℕ) (p : Progress) (shard : ℕ) (act : Act) (tx tx_new : TxState) (answer : Answer) (seen after : Shards) → IsMade catalog count limit p → IsAt (due p) shard act
-    → HasAsked seen tx shard act answer tx_new after → answer ≡ Done → p.done < length p.writes
-done_within catalog count limit p shard act tx tx_new answer seen after made at asked is =
+pub done_within : (catalog : Catalog) (count limit : ℕ) (p : Progress) (shard : ℕ) (act : Act) (tx tx_new : TxState) (answer : Answer) (port after : PortView) → IsMade catalog count limit p → IsAt (due p) shard act
+    → HasAsked port tx Main shard act answer tx_new after → answer ≡ Done → p.done < length p.writes
+done_within catalog count limit p shard act tx tx_new answer port after made at asked is =
     slice_get_within p.writes p.done at.action
-    (done_writes catalog count limit p at.action (session_of tx Main) (seen shard) (after shard) made (due_is p at.action at.is) (along p shard act (session_of tx Main) answer Done (seen shard) (after shard) at is asked.acts.acted))
+    (done_writes catalog count limit p at.action (session_of tx Main) (port.shards shard) (after.shards shard) made (due_is p at.action at.is) (along p shard act (session_of tx Main) answer Done (port.shards shard) (after.shards shard) at is asked.acts.acted))
 
-pub unchanged_never : (catalog : Catalog) (count limit : ℕ) (p : Progress) (shard : ℕ) (act : Act) (tx tx_new : TxState) (answer : Answer) (seen after : Shards) → IsMade catalog count limit p → IsAt (due p) shard act
-    → HasAsked seen tx shard act answer tx_new after → answer ≡ Unchanged → ⊥
-unchanged_never catalog count limit p shard act tx tx_new answer seen after made at asked is =
-    never_unchanged catalog count limit p at.action (session_of tx Main) (seen shard) (after shard) made (due_is p at.action at.is)
-    (along p shard act (session_of tx Main) answer Unchanged (seen shard) (after shard) at is asked.acts.acted)
+pub unchanged_never : (catalog : Catalog) (count limit : ℕ) (p : Progress) (shard : ℕ) (act : Act) (tx tx_new : TxState) (answer : Answer) (port after : PortView) → IsMade catalog count limit p → IsAt (due p) shard act
+    → HasAsked port tx Main shard act answer tx_new after → answer ≡ Unchanged → ⊥
+unchanged_never catalog count limit p shard act tx tx_new answer port after made at asked is =
+    never_unchanged catalog count limit p at.action (session_of tx Main) (port.shards shard) (after.shards shard) made (due_is p at.action at.is)
+    (along p shard act (session_of tx Main) answer Unchanged (port.shards shard) (after.shards shard) at is asked.acts.acted)
 
 -- ---- the step
 
-pub did_at : (catalog : Catalog) (p new : Progress) (tx tx_new : TxState) (seen after : Shards) (tells : ProgramTold) (shard : ℕ) (act : Act) (answer : Answer) → IsAt (due p) shard act
-    → HasAsked seen tx shard act answer tx_new after → ((action : Action) → action.shard ≡ shard → Answered catalog tx_new p action answer tells new) → Stepped catalog p tx seen tells new tx_new after
-did_at catalog p new tx tx_new seen after tells shard act answer at asked answered =
+pub did_at : (catalog : Catalog) (p new : Progress) (tx tx_new : TxState) (port after : PortView) (tells : ProgramTold) (shard : ℕ) (act : Act) (answer : Answer) → IsAt (due p) shard act
+    → HasAsked port tx Main shard act answer tx_new after → ((action : Action) → action.shard ≡ shard → Answered catalog tx_new p action answer tells new) → Stepped catalog p tx port tells new tx_new after
+did_at catalog p new tx tx_new port after tells shard act answer at asked answered =
     Did at.action answer at.is
-    (subst (λ (s : ℕ). HasAsked seen tx s at.action.act answer tx_new after) (sym at.shard_is) (subst (λ (a : Act). HasAsked seen tx shard a answer tx_new after) (sym at.act_is) asked))
+    (subst (λ (s : ℕ). HasAsked port tx Main s at.action.act answer tx_new after) (sym at.shard_is) (subst (λ (a : Act). HasAsked port tx Main shard a answer tx_new after) (sym at.act_is) asked))
     (answered_for catalog tx tx_new shard asked.listed.0 p at.action answer tells new asked.listed.1 (answered at.action at.shard_is))
 
-pub no_room_at : (catalog : Catalog) (p new : Progress) (tx tx_new : TxState) (seen after : Shards) (tells : ProgramTold) (shard : ℕ) (act : Act) → IsAt (due p) shard act → (tx_new ≡ tx) × AreSame seen after
-    → tells ≡ refused tx_new p OutOfMemory → Stepped catalog p tx seen tells new tx_new after
-no_room_at catalog p new tx tx_new seen after tells shard act at none told_is = NoRoom at.action at.is (told_is ∙ ap (λ (t : TxState). refused t p OutOfMemory) none.0) none.0 none.1
+pub no_room_at : (catalog : Catalog) (p new : Progress) (tx tx_new : TxState) (port after : PortView) (tells : ProgramTold) (shard : ℕ) (act : Act) → IsAt (due p) shard act → IsUnasked port tx tx_new after
+    → tells ≡ refused tx_new p OutOfMemory → Stepped catalog p tx port tells new tx_new after
+no_room_at catalog p new tx tx_new port after tells shard act at none told_is = NoRoom at.action at.is (told_is ∙ ap (λ (t : TxState). refused t p OutOfMemory) none.same) none

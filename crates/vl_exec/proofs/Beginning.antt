@@ -1,9 +1,10 @@
 -- The program of a plan that fits the catalog is made.
 use Rattle.std.proofs.Common.{◌≡◌, ℕ, zero, suc, ◌+◌, ◌<◌, ◌≤◌, ◌⊎◌, inl, inr, Bool, true, false, not, cond, List, [], ◌∷◌, length, get_or, map, Option, Some, None, refl, sym, ap, ◌∙◌, subst, arith}
-use Rattle.std.specs.Prelude.{Contains, IfOk, Result, Ok, Err, filter, slice_get, unwrap_or}
+use Rattle.std.specs.Prelude.{Contains, filter, slice_get, unwrap_or}
 use Rattle.std.specs.List.{AllPairs, count_by, position_or_len, range_with_len}
 use Rattle.std.specs.Option.{option_map, option_map_or}
 use Rattle.std.specs.Prelude.{option_and_then}
+use Rattle.std.proofs.lemmas.List.{length-map}
 use Rattle.std.proofs.lemmas.List.FromFn.{get_or-range_with_len, length-range_with_len}
 use Rattle.std.proofs.lemmas.List.Kept.{AllPairs-filter}
 use Rattle.std.proofs.lemmas.List.Sums.{sum_by-cons}
@@ -28,12 +29,14 @@ use Rattle.vl_plan.specs.Fits.{Fits, FitsInsert}
 use Rattle.vl_exec.specs.declared.action.Action.{Action}
 use Rattle.vl_exec.specs.declared.row_change.RowChange.{RowChange}
 use Rattle.vl_exec.specs.declared.row_change.RowChange.TheVariants.{Remove, Set}
-use Rattle.vl_exec.specs.Begun.{begun, insertion, key_in, searching, writing}
+use Rattle.vl_exec.specs.Begun.{begun, insertion, key_in, searching, target_of, writing}
+use Rattle.vl_exec.specs.declared.groundwork.Groundwork.{Groundwork}
+use Rattle.vl_exec.specs.declared.target.Target.{Target}
+use Rattle.vl_exec.specs.Laying.{HasRoomFor, IsLaidFor, begun_on, with_rows}
 use Rattle.vl_exec.specs.Making.{IsAction, IsChangeOf, IsInsert, IsMade}
-use Rattle.vl_exec.specs.Progress.{Progress}
-use Rattle.vl_exec.specs.Visiting.{is_visited, keyspace_shards, visited, visited_in}
+use Rattle.vl_exec.specs.Visiting.{is_visited, visited}
 use Rattle.vl_exec.proofs.Finding.{get_or_any}
-use Rattle.vl_exec.proofs.Gathering.{shards_within}
+use Rattle.vl_exec.proofs.Gathering.{shards_within, visited_is}
 
 -- ---- elements
 
@@ -140,13 +143,10 @@ insert_made catalog plan limit checked covering fits least = record {
 
 -- ---- UPDATE and DELETE
 
-visited_is : (catalog : Catalog) (number : ℕ) (route : Route) (table : Table) → slice_get catalog.tables number ≡ Some table → visited catalog number route ≡ filter (is_visited catalog number route) (keyspace_shards catalog table.keyspace)
-visited_is catalog number route table at = ap (λ (o : Option Table). option_map_or (visited_in catalog number route) o []) at
-
 search_made : (catalog : Catalog) (pred : Pred) (route : Route) (change : RowChange) (limit : ℕ) → FitsPred catalog pred → IsChangeOf catalog pred.table change → 1 ≤ limit
-    → IsMade catalog (shard_count catalog.rings) limit (searching catalog pred route change)
+    → IsMade catalog (shard_count catalog.rings) limit (searching pred change (visited catalog pred.table route))
 search_made catalog pred route change limit fits changes least =
-    let shards = visited_is catalog pred.table route fits.table fits.is_table in
+    let shards = visited_is catalog pred.table fits.table route fits.is_table in
     let first = first_shard catalog.rings fits.table.keyspace in
     let count = shards_in catalog.rings fits.table.keyspace in
     record {
@@ -166,6 +166,7 @@ search_made catalog pred route change limit fits changes least =
         ascending = subst (AllPairs (λ one other. one < other)) (sym shards)
             (AllPairs-filter (λ one other. one < other) (is_visited catalog pred.table route) (range_with_len first count) (range_ascends first count));
         read = omega arith;
+        counted = omega arith;
         behind = λ action n shard among from at. absurd (omega (arith, among.1));
         ordered = λ i j d below within. absurd (omega (arith, within));
       };
@@ -189,7 +190,20 @@ begun_made catalog (plans.Update plan) limit checked covering fits least = searc
 begun_made catalog (plans.Delete plan) limit checked covering fits least = search_made catalog plan.pred plan.route Remove limit fits.pred tt least
 begun_made catalog _ limit checked covering fits least = nothing_made catalog limit least
 
-pub made_of : {E : Type 0} (r : Result Progress E) (catalog : Catalog) (plan : Plan) → IfOk r (λ (p : Progress). p ≡ begun catalog plan) → ((limit : ℕ) → 1 ≤ limit → IsMade catalog (shard_count catalog.rings) limit (begun catalog plan))
-    → IfOk r (λ (p : Progress). (limit : ℕ) → 1 ≤ limit → IsMade catalog (shard_count catalog.rings) limit p)
-made_of (Ok p) catalog plan is made = λ limit least. subst (IsMade catalog (shard_count catalog.rings) limit) (sym is) (made limit least)
-made_of (Err e) catalog plan is made = tt
+-- ---- on its groundwork
+
+pub rows_laid : (catalog : Catalog) (number : ℕ) (rows : List (List Value)) → with_rows (map (target_of catalog number) rows) rows ≡ map (insertion catalog number) rows
+rows_laid catalog number [] = refl
+rows_laid catalog number (row ∷ rows) = ap (λ (rest : List Action). insertion catalog number row ∷ rest) (rows_laid catalog number rows)
+
+pub has_room : (catalog : Catalog) (plan : Plan) (laid : Groundwork) → IsLaidFor catalog plan laid → HasRoomFor plan laid
+has_room catalog (plans.Insert plan) laid is = (ap (λ (targets : List Target). length targets) is.0 ∙ length-map plan.rows (target_of catalog plan.table), is.1, is.2)
+has_room catalog (plans.Update plan) laid is = is.0
+has_room catalog (plans.Delete plan) laid is = is.0
+has_room catalog _ laid is = is
+
+pub begun_laid : (catalog : Catalog) (plan : Plan) (laid : Groundwork) → IsLaidFor catalog plan laid → begun_on plan laid ≡ begun catalog plan
+begun_laid catalog (plans.Insert plan) laid is = ap writing (ap (λ (targets : List Target). with_rows targets plan.rows) is.0 ∙ rows_laid catalog plan.table plan.rows)
+begun_laid catalog (plans.Update plan) laid is = ap (searching plan.pred (Set plan.settings)) is.1
+begun_laid catalog (plans.Delete plan) laid is = ap (searching plan.pred Remove) is.1
+begun_laid catalog _ laid is = refl

@@ -1,5 +1,5 @@
 -- The writes of the rows that a read gave: they fit, and stand in the order of the rows.
-use Rattle.std.proofs.Common.{◌≡◌, ℕ, zero, suc, ◌<◌, inl, inr, Bool, true, false, cond, List, [], ◌∷◌, ◌++◌, length, get_or, Option, Some, None, refl, sym, ap, ◌∙◌, subst, arith}
+use Rattle.std.proofs.Common.{◌≡◌, ℕ, zero, suc, ◌<◌, ◌≤◌, inl, inr, Bool, true, false, cond, List, [], ◌∷◌, ◌++◌, length, get_or, Option, Some, None, refl, sym, ap, ◌∙◌, subst, arith}
 use Rattle.std.specs.Prelude.{Contains, slice_get}
 use Rattle.std.specs.List.{AllPairs, AllByRecursion, cons_option}
 use Rattle.std.specs.List.Sorted.{IsStrictlySortedBy}
@@ -93,6 +93,15 @@ from_head change shard first rows action (Some d) is rest (suc k, within, at) = 
 pub write_from : (change : RowChange) (shard : ℕ) (rows : List (Key × List Value)) (action : Action) → Contains (writes_of change shard rows) action → IsFrom change shard rows action
 write_from change shard [] action among = absurd (omega (arith, among.1))
 write_from change shard (first ∷ rows) action among = from_head change shard first rows action (write_of change shard first) refl (write_from change shard rows) among
+
+few_head : (o : Option Action) (ds : List Action) (n : ℕ) → length ds ≤ n → length (cons_option o ds) ≤ suc n
+few_head None ds n few = omega (arith, few)
+few_head (Some d) ds n few = omega (arith, few)
+
+-- a row has one write at most
+pub writes_few : (change : RowChange) (shard : ℕ) (rows : List (Key × List Value)) → length (writes_of change shard rows) ≤ length rows
+writes_few change shard [] = omega arith
+writes_few change shard (first ∷ rows) = few_head (write_of change shard first) (writes_of change shard rows) (length rows) (writes_few change shard rows)
 
 -- ---- their order
 

@@ -1,7 +1,8 @@
 -- Loops that gather what a function gives of the items.
-use Rattle.std.proofs.Common.{◌≡◌, ℕ, zero, suc, ◌+◌, ◌<◌, ◌≤◌, ◌⊎◌, inl, inr, List, [], ◌∷◌, ◌++◌, length, get_or, take, drop, map, Option, Some, None, refl, sym, ap, ◌∙◌, subst, arith, append_assoc}
-use Rattle.std.specs.Prelude.{filter, fold, true}
-use Rattle.std.specs.List.{cons_option, filter_map, range_with_len, sum_by}
+use Rattle.std.proofs.Common.{◌≡◌, Bool, ℕ, zero, suc, ◌+◌, ◌<◌, ◌≤◌, List, [], ◌∷◌, ◌++◌, length, get_or, take, drop, map, Option, Some, None, refl, sym, ap, ◌∙◌, subst, arith, append_assoc}
+use Rattle.std.specs.Prelude.{◌==◌, ◌||◌, filter, fold, nat_lt, true, false}
+use Rattle.std.specs.List.{list_any, cons_option, filter_map, range_with_len, sum_by}
+use Rattle.std.proofs.lemmas.Bool.{lt-ltb}
 use Rattle.std.proofs.lemmas.List.{append-nil, take_more}
 use Rattle.std.proofs.lemmas.List.Elements.{filter_map-append}
 use Rattle.std.proofs.lemmas.List.Sums.{fold-append, sum_by-append, sum_by-take-drop}
@@ -15,7 +16,7 @@ use Rattle.vl_catalog.specs.declared.table.Table.{Table}
 use Rattle.vl_catalog.specs.Place.{first_shard, shard_count, shards_in}
 use Rattle.vl_model.specs.declared.route.Route.{Route}
 use Rattle.vl_model.specs.declared.route.Route.TheVariants as routes
-use Rattle.vl_exec.specs.Visiting.{keyspace_shards, visited, visited_in}
+use Rattle.vl_exec.specs.Visiting.{keyspace_shards, places_of, visited, visited_in}
 
 -- ---- items that are taken out of a list
 
@@ -59,6 +60,10 @@ pub filter_each : (xs : List ℕ) → filter (λ x. true) xs ≡ xs
 filter_each [] = refl
 filter_each (x ∷ xs) = ap (λ zs. x ∷ zs) (filter_each xs)
 
+pub filter_nothing : (xs : List ℕ) → filter (λ x. false) xs ≡ []
+filter_nothing [] = refl
+filter_nothing (x ∷ xs) = filter_nothing xs
+
 -- ---- the shards of a keyspace
 
 range_suc : (a n : ℕ) → range_with_len a (suc n) ≡ range_with_len a n ++ (a + n) ∷ []
@@ -77,17 +82,28 @@ first_of (ring ∷ rings) (suc k) = first_of rings k
 pub shards_within : (rings : List (List Range)) (k : ℕ) → first_shard rings k + shards_in rings k ≤ shard_count rings
 shards_within rings k = omega (arith, sum_by-take-drop length rings k, first_of rings k)
 
--- a route that visits each of them
-pub visits_each : (catalog : Catalog) (number : ℕ) (table : Table) (route : Route) → slice_get catalog.tables number ≡ Some table
-    → ((l : ℕ) × (values : List Value) × (route ≡ routes.Lookup l values)) ⊎ (route ≡ routes.All) → keyspace_shards catalog table.keyspace ≡ visited catalog number route
-visits_each catalog number table route at (inl lookup) =
-    sym
-    (ap (visited catalog number) lookup.2
-    ∙ ap (λ (o : Option Table). option_map_or (visited_in catalog number (routes.Lookup lookup.0 lookup.1)) o []) at ∙ filter_each (keyspace_shards catalog table.keyspace))
-visits_each catalog number table route at (inr all) =
-    sym
-    (ap (visited catalog number) all ∙ ap (λ (o : Option Table). option_map_or (visited_in catalog number routes.All) o []) at
-    ∙ filter_each (keyspace_shards catalog table.keyspace))
+-- ---- what a route visits
+
+pub visited_is : (catalog : Catalog) (number : ℕ) (table : Table) (route : Route) → slice_get catalog.tables number ≡ Some table → visited catalog number route ≡ visited_in catalog number route table
+visited_is catalog number table route at = ap (λ (o : Option Table). option_map_or (visited_in catalog number route) o []) at
+
+pub visits_some : (catalog : Catalog) (number : ℕ) (table : Table) (route : Route) (values : List Value) → slice_get catalog.tables number ≡ Some table → route ≡ routes.Primary values
+    → visited_in catalog number (routes.Primary values) table ≡ visited catalog number route
+visits_some catalog number table route values at is = sym (ap (visited catalog number) is ∙ visited_is catalog number table (routes.Primary values) at)
+
+filter_by : (b : Bool) (q : ℕ → Bool) (xs : List ℕ) → b ≡ true → xs ≡ filter (λ x. b || q x) xs
+filter_by true q xs is = sym (filter_each xs)
+filter_by false q xs is = absurd (cc is)
+
+pub all_visited : (catalog : Catalog) (number : ℕ) (values : List Value) (table : Table) → 1 < length values → keyspace_shards catalog table.keyspace ≡ visited_in catalog number (routes.Primary values) table
+all_visited catalog number values table several =
+    filter_by (nat_lt 1 (length values)) (λ shard. list_any (λ place. place == shard) (places_of catalog number values)) (keyspace_shards catalog table.keyspace) (lt-ltb 1 (length values) several)
+
+pub visits_all : (catalog : Catalog) (number : ℕ) (table : Table) (route : Route) → slice_get catalog.tables number ≡ Some table → route ≡ routes.All → keyspace_shards catalog table.keyspace ≡ visited catalog number route
+visits_all catalog number table route at is = sym (ap (visited catalog number) is ∙ visited_is catalog number table routes.All at ∙ filter_each (keyspace_shards catalog table.keyspace))
+
+pub visits_none : (catalog : Catalog) (number : ℕ) (table : Table) (route : Route) (l : ℕ) (values : List Value) → slice_get catalog.tables number ≡ Some table → route ≡ routes.Lookup l values → [] ≡ visited catalog number route
+visits_none catalog number table route l values at is = sym (ap (visited catalog number) is ∙ visited_is catalog number table (routes.Lookup l values) at ∙ filter_nothing (keyspace_shards catalog table.keyspace))
 
 -- ---- an element that was looked up
 

@@ -13,7 +13,7 @@ use Rattle.vl_exec.specs.declared.action.Action.{Action}
 use Rattle.vl_exec.specs.declared.program_told.ProgramTold.{ProgramTold}
 use Rattle.vl_exec.specs.declared.search.Search.{Search}
 use Rattle.vl_exec.specs.Answering.{Answered, IsWell, OrNoMemory, WaitsOn, refused}
-use Rattle.vl_exec.specs.Progress.{IsNearer, Progress, has_read, with_rows, with_try, with_write}
+use Rattle.vl_exec.specs.Progress.{IsNearer, Progress, acts_done, has_read, with_rows, with_try, with_write}
 
 pub data Went (old : Progress) (action : Action) (limit : ℕ) (new : Progress) : Answer → Type 0 where
   Wrote : new ≡ with_write old → Went old action limit new Done
@@ -44,7 +44,14 @@ went catalog tx old action Device tells new h going = ended tells _ h (λ it. it
 went catalog tx old action Unchanged tells new h going = absurd h
 went catalog tx old action Memory tells new h going = absurd h
 
--- ---- nearer to the end
+-- ---- nearer to the end, by one action
+
+pub read_counts : (p : Progress) (search : Search) (shard : ℕ) (rows : List (Key × Values)) → p.search ≡ Some search → acts_done (with_rows shard rows p) ≡ acts_done p + 1
+read_counts p search shard rows is =
+    subst (λ (o : Option Search). option_map_or (λ (s : Search). s.read) (option_map (has_read (length rows)) o) 0 + p.done ≡ option_map_or (λ (s : Search). s.read) o 0 + p.done + 1) (sym is) (omega arith)
+
+pub write_counts : (p : Progress) → acts_done (with_write p) ≡ acts_done p + 1
+write_counts p = omega arith
 
 pub reads_end : (p : Progress) (search : Search) (shard : ℕ) (rows : List (Key × Values)) → p.search ≡ Some search → search.read < length search.shards → IsNearer p (with_rows shard rows p)
 reads_end p search shard rows is within =

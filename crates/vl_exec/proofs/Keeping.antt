@@ -24,7 +24,7 @@ use Rattle.vl_exec.specs.Changes.{writes_of}
 use Rattle.vl_exec.specs.Making.{IsAction, IsMade, IsSearch}
 use Rattle.vl_exec.specs.Progress.{Progress, has_read, with_try, with_write}
 use Rattle.vl_exec.proofs.Dues.{IsDue, done_writes, rows_read, search_is}
-use Rattle.vl_exec.proofs.Finding.{pairs_append, write_fits, write_from, write_is, writes_ordered}
+use Rattle.vl_exec.proofs.Finding.{pairs_append, write_fits, write_from, write_is, writes_few, writes_ordered}
 use Rattle.vl_exec.proofs.Goings.{Read, Waited, Went, Wrote}
 
 -- ---- a write, and a try
@@ -51,7 +51,7 @@ table_is : (number : ℕ) (table : ℕ) (b : Bool) → ((table == number) && b) 
 table_is number table b h = eqb-true table number (and_parts (table == number) b h).0
 
 read_keeps : (catalog : Catalog) (count limit : ℕ) (p : Progress) (search : Search) (view : View) (who : Who) (shard : ℕ) (rows : List (Key × Values)) → Checked catalog → ArePlaced catalog shard view
-    → IsMade catalog count limit p → p.search ≡ Some search → HasRead catalog count search view who shard rows → IsMade catalog count limit (record { search = Some (has_read (length rows) search); writes = p.writes ++ writes_of search.change shard rows; done = p.done; tries = 0 })
+    → IsMade catalog count limit p → p.search ≡ Some search → HasRead catalog count search view who shard rows → IsMade catalog count limit (record { search = Some (has_read (length rows) search); writes = p.writes ++ writes_of search.change shard rows; done = p.done; wrote = p.wrote; tries = 0 })
 read_keeps catalog count limit p search view who shard rows checked placed made is read =
     let s = search_is catalog count p search made.search is in
     let given = read.find p.writes s in
@@ -83,6 +83,7 @@ read_keeps catalog count limit p search view who shard rows checked placed made 
         within = s.within;
         ascending = s.ascending;
         read = omega (arith, within);
+        counted = omega (arith, s.counted, length-append p.writes (writes_of search.change shard rows), writes_few search.change shard rows);
         behind = λ action n other among from at. elim (Contains-append_cases p.writes (writes_of search.change shard rows) action among) [
           | inl it ↦ s.behind action n other it (omega (arith, from)) at
           | inr it ↦ omega (arith, on_shard action it, ascends n other from at)
@@ -95,7 +96,7 @@ read_keeps catalog count limit p search view who shard rows checked placed made 
 
 pub with_rows_is : (p : Progress) (search : Search) (shard : ℕ) (rows : List (Key × Values)) (o : Option Search) → o ≡ Some search
     → record p { search = option_map (has_read (length rows)) o; writes = p.writes ++ option_map_or (λ (it : Search). writes_of it.change shard rows) o []; tries = 0 }
-    ≡ record { search = Some (has_read (length rows) search); writes = p.writes ++ writes_of search.change shard rows; done = p.done; tries = 0 }
+    ≡ record { search = Some (has_read (length rows) search); writes = p.writes ++ writes_of search.change shard rows; done = p.done; wrote = p.wrote; tries = 0 }
 with_rows_is p search shard rows o is = ap (λ (it : Option Search). record p { search = option_map (has_read (length rows)) it; writes = p.writes ++ option_map_or (λ (one : Search). writes_of one.change shard rows) it []; tries = 0 }) is
 
 -- the rows of a locking read are those that it gave

@@ -27,7 +27,7 @@ use Rattle.vl_exec.specs.Changes.{write_of, writes_of}
 use Rattle.vl_exec.specs.Effects.{AreOwed, AreOwedBy, IsOwed}
 use Rattle.vl_exec.specs.Making.{IsMade, IsSearch, IsWrite, written_key}
 use Rattle.vl_exec.specs.Progress.{Progress, has_read, with_try, with_write}
-use Rattle.vl_exec.specs.Stepping.{ActsOn}
+use Rattle.vl_port.specs.Asking.{ActsOn}
 use Rattle.vl_exec.proofs.Dues.{IsDue, contains_at, done_writes, rows_read, search_is}
 use Rattle.vl_exec.proofs.Finding.{write_from, write_is}
 use Rattle.vl_exec.proofs.Goings.{Read, Waited, Went, Wrote}
@@ -77,20 +77,28 @@ own_on old new who action answer key s acts here (inr other) = record {
 }
 
 -- the writes of a search that are still to be done are owed
-abbrev pub Owe : Search → List Action → ℕ → Shards → Who → Type 0
-Owe search writes done seen who = (n : ℕ) (action : Action) → done ≤ n → slice_get writes n ≡ Some action → IsOwed search (seen action.shard) who action
+abbrev pub Owe : Search → List Action → ℕ → Shards → Who → ℕ → Type 0
+Owe search writes done seen who shard = (n : ℕ) (action : Action) → done ≤ n → slice_get writes n ≡ Some action → action.shard ≡ shard → IsOwed search (seen shard) who action
+
+-- on the shard of the action itself
+here : (search : Search) (seen : Shards) (who : Who) (shard : ℕ) (action : Action) → action.shard ≡ shard → IsOwed search (seen action.shard) who action → IsOwed search (seen shard) who action
+here search seen who shard action on owed = subst (λ (s : ℕ). IsOwed search (seen s) who action) on owed
+
+there : (search : Search) (seen : Shards) (who : Who) (shard : ℕ) (action : Action) → action.shard ≡ shard → IsOwed search (seen shard) who action → IsOwed search (seen action.shard) who action
+there search seen who shard action on owed = subst (λ (s : ℕ). IsOwed search (seen s) who action) (sym on) owed
 
 -- what is owed is of the write's own key
 owed_key : (search : Search) (view : View) (who : Who) (action : Action) → (owed : IsOwed search view who action) → written_key action.act ≡ Some owed.key
 owed_key search view who action owed = (write_is search.change action.shard (owed.key, owed.row) action owed.is_write).key_is
 
-write_owes : (catalog : Catalog) (count : ℕ) (p : Progress) (search : Search) (action : Action) (who : Who) (old new : Shards) → IsSearch catalog count search p.writes → IsWrite action.act → slice_get p.writes p.done ≡ Some action
-    → ActsOn old who action.shard action.act Done new → Owe search p.writes p.done old who → Owe search p.writes (p.done + 1) new who
-write_owes catalog count p search action who old new is write at acts owe n other from at_other =
-    let owed = owe n other (omega (arith, from)) at_other in
+write_owes : (catalog : Catalog) (count : ℕ) (p : Progress) (search : Search) (action : Action) (who : Who) (shard : ℕ) (old new : Shards) → IsSearch catalog count search p.writes → IsWrite action.act → slice_get p.writes p.done ≡ Some action
+    → ActsOn old who action.shard action.act Done new → Owe search p.writes p.done old who shard → Owe search p.writes (p.done + 1) new who shard
+write_owes catalog count p search action who shard old new is write at acts owe n other from at_other on =
+    let owed = there search old who shard other on (owe n other (omega (arith, from)) at_other on) in
     let own = key_of_write action.act write in
     let key_is = owed_key search (old other.shard) who other owed in
-    owed_on search (old other.shard) (new other.shard) who other owed
+    here search new who shard other on
+    (owed_on search (old other.shard) (new other.shard) who other owed
     (own_on old new who action Done owed.key other.shard acts
     (λ same. subst (λ (v : View). StaysOwn (old action.shard) v who owed.key) (sym acts.acted.2)
     (written_own (old action.shard) who action.act own.0 owed.key write own.1
@@ -98,7 +106,7 @@ write_owes catalog count p search action who old new is write at acts owe n othe
       | inl key ↦ absurd (precedes_apart action other own.0 owed.key (ordered_at p.writes p.done n action other is.ordered (omega (arith, from)) at at_other) own.1 key_is (sym same) (is_key-true own.0 owed.key key))
       | inr apart ↦ apart
     ])))
-    (same_or_other other.shard action.shard))
+    (same_or_other other.shard action.shard)))
 
 -- ---- a read
 
@@ -152,12 +160,13 @@ back_at (x ∷ xs) ys (suc n) one from at = back_at xs ys n one (omega (arith, f
 before_or_behind : (n k : ℕ) → (n < k) ⊎ (k ≤ n)
 before_or_behind n k = grind arith
 
-read_owes : (catalog : Catalog) (count : ℕ) (p : Progress) (search : Search) (action : Action) (who : Who) (rows : List (Key × Values)) (old new : Shards) → IsSearch catalog count search p.writes → action.act ≡ search.find
-    → ActsOn old who action.shard action.act (Rows rows) new → Owe search p.writes p.done old who → Owe (has_read (length rows) search) (p.writes ++ writes_of search.change action.shard rows) p.done new who
-read_owes catalog count p search action who rows old new is same acts owe n other from at_other =
-    elim (before_or_behind n (length p.writes)) [
+read_owes : (catalog : Catalog) (count : ℕ) (p : Progress) (search : Search) (action : Action) (who : Who) (rows : List (Key × Values)) (shard : ℕ) (old new : Shards) → IsSearch catalog count search p.writes → action.act ≡ search.find
+    → ActsOn old who action.shard action.act (Rows rows) new → Owe search p.writes p.done old who shard → Owe (has_read (length rows) search) (p.writes ++ writes_of search.change action.shard rows) p.done new who shard
+read_owes catalog count p search action who rows shard old new is same acts owe n other from at_other on =
+    here (has_read (length rows) search) new who shard other on
+    (elim (before_or_behind n (length p.writes)) [
       | inl within ↦
-          let owed = owe n other from (front_at p.writes (writes_of search.change action.shard rows) n other within at_other) in
+          let owed = there search old who shard other on (owe n other from (front_at p.writes (writes_of search.change action.shard rows) n other within at_other) on) in
           with_count (owed_on search (old other.shard) (new other.shard) who other owed
           (own_on old new who action (Rows rows) owed.key other.shard acts (λ at. subst (λ (v : View). StaysOwn (old action.shard) v who owed.key) (sym acts.acted.2) (taken_own (old action.shard) who action.act owed.key)) (same_or_other other.shard action.shard)))
       | inr behind ↦
@@ -165,43 +174,44 @@ read_owes catalog count p search action who rows old new is same acts owe n othe
           let found =
           found_owed search (old action.shard) who is.pred rows action.shard other (read_given catalog count search (old action.shard) (new action.shard) who action.act rows p.writes is same acts.acted)
           (back_at p.writes (writes_of search.change action.shard rows) n other behind at_other) (length rows) in
-          let here : new action.shard ≡ taken who (Find is.pred true) (old action.shard) = acts.acted.2 ∙ ap (λ (a : Act). taken who a (old action.shard)) is_find in
-          subst (λ (s : ℕ). IsOwed (has_read (length rows) search) (new s) who other) (sym found.0) (subst (λ (v : View). IsOwed (has_read (length rows) search) v who other) (sym here) found.1)
-    ]
+          let after : new action.shard ≡ taken who (Find is.pred true) (old action.shard) = acts.acted.2 ∙ ap (λ (a : Act). taken who a (old action.shard)) is_find in
+          subst (λ (s : ℕ). IsOwed (has_read (length rows) search) (new s) who other) (sym found.0) (subst (λ (v : View). IsOwed (has_read (length rows) search) v who other) (sym after) found.1)
+    ])
   where
     with_count : {view : View} → IsOwed search view who other → IsOwed (has_read (length rows) search) view who other
     with_count owed = record { key = owed.key; row = owed.row; is_write = owed.is_write; stands = owed.stands; held = owed.held }
 
 -- ---- the whole
 
-try_owes : (search : Search) (writes : List Action) (done : ℕ) (action : Action) (who : Who) (answer : Answer) (old new : Shards) → ((key : Key) → StaysOwn (old action.shard) (new action.shard) who key) → ActsOn old who action.shard action.act answer new
-    → Owe search writes done old who → Owe search writes done new who
-try_owes search writes done action who answer old new stays acts owe n other from at =
-    let owed = owe n other from at in
-    owed_on search (old other.shard) (new other.shard) who other owed (own_on old new who action answer owed.key other.shard acts (λ same. stays owed.key) (same_or_other other.shard action.shard))
+try_owes : (search : Search) (writes : List Action) (done : ℕ) (action : Action) (who : Who) (answer : Answer) (shard : ℕ) (old new : Shards) → ((key : Key) → StaysOwn (old action.shard) (new action.shard) who key) → ActsOn old who action.shard action.act answer new
+    → Owe search writes done old who shard → Owe search writes done new who shard
+try_owes search writes done action who answer shard old new stays acts owe n other from at on =
+    let owed = there search old who shard other on (owe n other from at on) in
+    here search new who shard other on
+    (owed_on search (old other.shard) (new other.shard) who other owed (own_on old new who action answer owed.key other.shard acts (λ same. stays owed.key) (same_or_other other.shard action.shard)))
 
-pub went_owes : (catalog : Catalog) (count limit : ℕ) (p new : Progress) (action : Action) (answer : Answer) (tx : TxState) (old after : Shards) (o : Option Search) → p.search ≡ o → IsMade catalog count limit p → IsDue p action
-    → ActsOn old (session_of tx Main) action.shard action.act answer after → Went p action limit new answer → AreOwedBy old tx o p → AreOwed after tx new
-went_owes catalog count limit p new action answer tx old after None none made is_due acts (Wrote is) owe =
-    subst (AreOwed after tx) (sym is) (subst (λ (o : Option Search). AreOwedBy after tx o (with_write p)) (sym none) tt)
-went_owes catalog count limit p new action answer tx old after (Some search) some made is_due acts (Wrote is) owe =
+pub went_owes : (catalog : Catalog) (count limit : ℕ) (p new : Progress) (action : Action) (answer : Answer) (tx : TxState) (shard : ℕ) (old after : Shards) (o : Option Search) → p.search ≡ o → IsMade catalog count limit p → IsDue p action
+    → ActsOn old (session_of tx Main) action.shard action.act answer after → Went p action limit new answer → AreOwedBy old tx o p shard → AreOwed after tx new shard
+went_owes catalog count limit p new action answer tx shard old after None none made is_due acts (Wrote is) owe =
+    subst (λ (q : Progress). AreOwed after tx q shard) (sym is) (subst (λ (o : Option Search). AreOwedBy after tx o (with_write p) shard) (sym none) tt)
+went_owes catalog count limit p new action answer tx shard old after (Some search) some made is_due acts (Wrote is) owe =
     let at = done_writes catalog count limit p action (session_of tx Main) (old action.shard) (after action.shard) made is_due acts.acted in
-    subst (AreOwed after tx) (sym is)
-    (subst (λ (o : Option Search). AreOwedBy after tx o (with_write p)) (sym some)
-    (write_owes catalog count p search action (session_of tx Main) old after (search_is catalog count p search made.search some) (made.writes action (contains_at p.writes p.done action at)).write at acts owe))
-went_owes catalog count limit p new action answer tx old after None none made is_due acts (Read rows is) owe =
+    subst (λ (q : Progress). AreOwed after tx q shard) (sym is)
+    (subst (λ (o : Option Search). AreOwedBy after tx o (with_write p) shard) (sym some)
+    (write_owes catalog count p search action (session_of tx Main) shard old after (search_is catalog count p search made.search some) (made.writes action (contains_at p.writes p.done action at)).write at acts owe))
+went_owes catalog count limit p new action answer tx shard old after None none made is_due acts (Read rows is) owe =
     let due = rows_read catalog count limit p action (session_of tx Main) (old action.shard) (after action.shard) rows made is_due acts.acted in
     absurd (cc (none, due.is))
-went_owes catalog count limit p new action answer tx old after (Some search) some made is_due acts (Read rows is) owe =
+went_owes catalog count limit p new action answer tx shard old after (Some search) some made is_due acts (Read rows is) owe =
     let due = rows_read catalog count limit p action (session_of tx Main) (old action.shard) (after action.shard) rows made is_due acts.acted in
     let same : due.search ≡ search = same_Some due.search search (sym due.is ∙ some) in
     let s = search_is catalog count p search made.search some in
-    subst (AreOwed after tx) (sym (is ∙ with_rows_is p search action.shard rows p.search some))
-    (read_owes catalog count p search action (session_of tx Main) rows old after s (due.same ∙ ap (λ (it : Search). it.find) same) acts owe)
-went_owes catalog count limit p new action answer tx old after None none made is_due acts (Waited by key is below) owe =
-    subst (AreOwed after tx) (sym is) (subst (λ (o : Option Search). AreOwedBy after tx o (with_try p)) (sym none) tt)
-went_owes catalog count limit p new action answer tx old after (Some search) some made is_due acts (Waited by key is below) owe =
-    subst (AreOwed after tx) (sym is)
-    (subst (λ (o : Option Search). AreOwedBy after tx o (with_try p)) (sym some)
-    (try_owes search p.writes p.done action (session_of tx Main) (Held by key) old after
+    subst (λ (q : Progress). AreOwed after tx q shard) (sym (is ∙ with_rows_is p search action.shard rows p.search some))
+    (read_owes catalog count p search action (session_of tx Main) rows shard old after s (due.same ∙ ap (λ (it : Search). it.find) same) acts owe)
+went_owes catalog count limit p new action answer tx shard old after None none made is_due acts (Waited by key is below) owe =
+    subst (λ (q : Progress). AreOwed after tx q shard) (sym is) (subst (λ (o : Option Search). AreOwedBy after tx o (with_try p) shard) (sym none) tt)
+went_owes catalog count limit p new action answer tx shard old after (Some search) some made is_due acts (Waited by key is below) owe =
+    subst (λ (q : Progress). AreOwed after tx q shard) (sym is)
+    (subst (λ (o : Option Search). AreOwedBy after tx o (with_try p) shard) (sym some)
+    (try_owes search p.writes p.done action (session_of tx Main) (Held by key) shard old after
     (λ k. record { pending = ap (λ (v : View). v.pending k) acts.acted.1; committed = ap (λ (v : View). v.committed k) acts.acted.1; holder = λ h. ap (λ (v : View). v.holder k) acts.acted.1 ∙ h }) acts owe))

@@ -32,7 +32,7 @@ use Rattle.vl_exec.specs.Changes.{writes_of}
 use Rattle.vl_exec.specs.Effects.{HasWritten, IsWritten}
 use Rattle.vl_exec.specs.Making.{IsInsert, IsMade, IsSearchIn, IsWrite, Precedes, written_key}
 use Rattle.vl_exec.specs.Progress.{Progress, has_read, with_write}
-use Rattle.vl_exec.specs.Stepping.{ActsOn}
+use Rattle.vl_port.specs.Asking.{ActsOn}
 use Rattle.vl_exec.proofs.Dues.{IsDue, contains_at, done_writes}
 use Rattle.vl_exec.proofs.Goings.{Read, Waited, Went, Wrote}
 
@@ -124,16 +124,18 @@ key_of_write (Find pred locking) write = absurd write
 pub key_or_not : (a b : Key) → (is_key a b ≡ true) ⊎ (is_key a b ≡ false)
 key_or_not a b = cases_Bool (is_key a b)
 
-written_more : (catalog : Catalog) (count limit : ℕ) (p : Progress) (action : Action) (tx : TxState) (old new : Shards) → IsMade catalog count limit p → slice_get p.writes p.done ≡ Some action
-    → ActsOn old (session_of tx Main) action.shard action.act Done new → HasWritten old tx p → HasWritten new tx (with_write p)
-written_more catalog count limit p action tx old new made at acts before n one below at_one =
-    elim (same_or_other n p.done) [
+written_more : (catalog : Catalog) (count limit : ℕ) (p : Progress) (action : Action) (tx : TxState) (shard : ℕ) (old new : Shards) → IsMade catalog count limit p → slice_get p.writes p.done ≡ Some action
+    → ActsOn old (session_of tx Main) action.shard action.act Done new → HasWritten old tx p shard → HasWritten new tx (with_write p) shard
+written_more catalog count limit p action tx shard old new made at acts before n one below at_one on =
+    subst (λ (s : ℕ). IsWritten (new s) (session_of tx Main) one.act) on
+    (elim (same_or_other n p.done) [
       | inl last ↦
           let same : action ≡ one = same_Some action one (sym at ∙ ap (slice_get p.writes) (sym last) ∙ at_one) in
           subst (λ (d : Action). IsWritten (new d.shard) (session_of tx Main) d.act) same
           (subst (λ (v : View). IsWritten v (session_of tx Main) action.act) (sym acts.acted.2) (pending_own (old action.shard) (session_of tx Main) action.act (made.writes action (contains_at p.writes p.done action at)).write))
       | inr earlier ↦
           let less : n < p.done = omega (arith, below, earlier) in
+          let stood : IsWritten (old one.shard) (session_of tx Main) one.act = subst (λ (s : ℕ). IsWritten (old s) (session_of tx Main) one.act) (sym on) (before n one less at_one on) in
           let is_write = (made.writes action (contains_at p.writes p.done action at)).write in
           let own = key_of_write action.act is_write in
           λ key key_is.
@@ -142,11 +144,11 @@ written_more catalog count limit p action tx old new made at acts before n one b
             | inl same ↦
                 absurd
                 (earlier_apart catalog count p.search p.writes (old action.shard) (session_of tx Main) n p.done one action key own.0 made.search less at_one at key_is own.1 shards
-                (subst (λ (s : ℕ). IsWritten (old s) (session_of tx Main) one.act) shards (before n one less at_one)) acts.acted.1 (sym (is_key-true own.0 key same)))
+                (subst (λ (s : ℕ). IsWritten (old s) (session_of tx Main) one.act) shards stood) acts.acted.1 (sym (is_key-true own.0 key same)))
             | inr apart ↦ apart
           ])
-          (before n one less at_one key key_is) (same_or_other one.shard action.shard)
-    ]
+          (stood key key_is) (same_or_other one.shard action.shard)
+    ])
 
 -- ---- other answers
 
@@ -159,32 +161,32 @@ pending_stays old new who action answer key s acts same =
       | inr other ↦ ap (λ (v : View). v.pending key) (acts.others s other)
     ]
 
-read_stays : (old new : Shards) (tx : TxState) (p : Progress) (action : Action) (answer : Answer) → ((key : Key) → (new action.shard).pending key ≡ (old action.shard).pending key) → ActsOn old (session_of tx Main) action.shard action.act answer new
-    → HasWritten old tx p → HasWritten new tx p
-read_stays old new tx p action answer same acts before n one below at key key_is = pending_stays old new (session_of tx Main) action answer key one.shard acts (same key) ∙ before n one below at key key_is
+read_stays : (old new : Shards) (tx : TxState) (p : Progress) (action : Action) (answer : Answer) (shard : ℕ) → ((key : Key) → (new action.shard).pending key ≡ (old action.shard).pending key) → ActsOn old (session_of tx Main) action.shard action.act answer new
+    → HasWritten old tx p shard → HasWritten new tx p shard
+read_stays old new tx p action answer shard same acts before n one below at on key key_is = pending_stays old new (session_of tx Main) action answer key shard acts (same key) ∙ before n one below at on key key_is
 
 -- more writes are known behind those that are done
 pub front_at : (xs ys : List Action) (n : ℕ) (one : Action) → n < length xs → slice_get (xs ++ ys) n ≡ Some one → slice_get xs n ≡ Some one
 front_at xs ys n one within at =
     slice_get-get_or xs n one within ∙ ap (λ (d : Action). Some d) (sym (get_or_append_left xs ys one n within) ∙ get_or_from_slice_get (xs ++ ys) n one one at)
 
-more_known : (seen : Shards) (tx : TxState) (p : Progress) (more : List Action) (search : Option Search) (tries : ℕ) → p.done ≤ length p.writes → HasWritten seen tx p
-    → HasWritten seen tx (record { search = search; writes = p.writes ++ more; done = p.done; tries = tries })
-more_known seen tx p more search tries within before n one below at = before n one below (front_at p.writes more n one (omega (arith, below, within)) at)
+more_known : (seen : Shards) (tx : TxState) (p : Progress) (more : List Action) (search : Option Search) (tries shard : ℕ) → p.done ≤ length p.writes → HasWritten seen tx p shard
+    → HasWritten seen tx (record { search = search; writes = p.writes ++ more; done = p.done; wrote = p.wrote; tries = tries }) shard
+more_known seen tx p more search tries shard within before n one below at = before n one below (front_at p.writes more n one (omega (arith, below, within)) at)
 
 -- the transaction's main session is the same
-pub same_tx : (seen : Shards) (tx new : TxState) (p : Progress) → session_of new Main ≡ session_of tx Main → HasWritten seen tx p → HasWritten seen new p
-same_tx seen tx new p same before n one below at = subst (λ (w : Who). IsWritten (seen one.shard) w one.act) (sym same) (before n one below at)
+pub same_tx : (seen : Shards) (tx new : TxState) (p : Progress) (shard : ℕ) → session_of new Main ≡ session_of tx Main → HasWritten seen tx p shard → HasWritten seen new p shard
+same_tx seen tx new p shard same before n one below at on = subst (λ (w : Who). IsWritten (seen shard) w one.act) (sym same) (before n one below at on)
 
 -- ---- the whole
 
-pub went_written : (catalog : Catalog) (count limit : ℕ) (p new : Progress) (action : Action) (answer : Answer) (tx : TxState) (old after : Shards) → IsMade catalog count limit p → IsDue p action
-    → ActsOn old (session_of tx Main) action.shard action.act answer after → Went p action limit new answer → HasWritten old tx p → HasWritten after tx new
-went_written catalog count limit p new action answer tx old after made is_due acts (Wrote is) before =
-    subst (HasWritten after tx) (sym is)
-    (written_more catalog count limit p action tx old after made (done_writes catalog count limit p action (session_of tx Main) (old action.shard) (after action.shard) made is_due acts.acted) acts before)
-went_written catalog count limit p new action answer tx old after made is_due acts (Read rows is) before =
-    subst (HasWritten after tx) (sym is)
-    (more_known after tx p (option_map_or (λ (search : Search). writes_of search.change action.shard rows) p.search []) (option_map (has_read (length rows)) p.search) 0 made.done (read_stays old after tx p action (Rows rows) (λ key. ap (λ (v : View). v.pending key) acts.acted.2) acts before))
-went_written catalog count limit p new action answer tx old after made is_due acts (Waited by key is below) before =
-    subst (HasWritten after tx) (sym is) (read_stays old after tx p action (Held by key) (λ k. ap (λ (v : View). v.pending k) acts.acted.1) acts before)
+pub went_written : (catalog : Catalog) (count limit : ℕ) (p new : Progress) (action : Action) (answer : Answer) (tx : TxState) (shard : ℕ) (old after : Shards) → IsMade catalog count limit p → IsDue p action
+    → ActsOn old (session_of tx Main) action.shard action.act answer after → Went p action limit new answer → HasWritten old tx p shard → HasWritten after tx new shard
+went_written catalog count limit p new action answer tx shard old after made is_due acts (Wrote is) before =
+    subst (λ (q : Progress). HasWritten after tx q shard) (sym is)
+    (written_more catalog count limit p action tx shard old after made (done_writes catalog count limit p action (session_of tx Main) (old action.shard) (after action.shard) made is_due acts.acted) acts before)
+went_written catalog count limit p new action answer tx shard old after made is_due acts (Read rows is) before =
+    subst (λ (q : Progress). HasWritten after tx q shard) (sym is)
+    (more_known after tx p (option_map_or (λ (search : Search). writes_of search.change action.shard rows) p.search []) (option_map (has_read (length rows)) p.search) 0 shard made.done (read_stays old after tx p action (Rows rows) shard (λ key. ap (λ (v : View). v.pending key) acts.acted.2) acts before))
+went_written catalog count limit p new action answer tx shard old after made is_due acts (Waited by key is below) before =
+    subst (λ (q : Progress). HasWritten after tx q shard) (sym is) (read_stays old after tx p action (Held by key) shard (λ k. ap (λ (v : View). v.pending k) acts.acted.1) acts before)

@@ -18,7 +18,7 @@ use Rattle.vl_port.specs.declared.tx_state.TxState.{TxState}
 use Rattle.vl_exec.specs.declared.action.Action.{Action}
 use Rattle.vl_exec.specs.declared.program_told.ProgramTold.{ProgramTold}
 use Rattle.vl_exec.specs.declared.program_told.ProgramTold.TheVariants as told
-use Rattle.vl_exec.specs.Progress.{Progress, due, found, has_written, with_rows, with_try, with_write}
+use Rattle.vl_exec.specs.Progress.{Progress, due, found, with_rows, with_try, with_write}
 
 -- ---- replies
 
@@ -29,7 +29,7 @@ reply_of tx p = told.Reply (replies.Ok p.done (found p) 0 (not tx.single) tx.aut
 -- a statement that is refused before its first write leaves a transaction open that isn't its own; after
 -- it, all is to be rolled back
 abbrev pub refused : TxState → Progress → Cause → ProgramTold
-refused tx p cause = told.Reply (refusal cause (not tx.single && not (has_written p)))
+refused tx p cause = told.Reply (refusal cause (not tx.single && not p.wrote))
 
 -- a lost session or a failed device ends the transaction
 abbrev pub refused_whole : Cause → ProgramTold

@@ -16,6 +16,7 @@ use Rattle.vl_port.specs.declared.act.Act.TheVariants.{Insert, Find}
 use Rattle.vl_exec.specs.declared.action.Action.{Action}
 use Rattle.vl_exec.specs.declared.row_change.RowChange.{RowChange}
 use Rattle.vl_exec.specs.declared.row_change.RowChange.TheVariants.{Remove, Set}
+use Rattle.vl_exec.specs.declared.target.Target.{Target}
 use Rattle.vl_exec.specs.Progress.{Progress}
 use Rattle.vl_exec.specs.Visiting.{visited}
 
@@ -23,27 +24,35 @@ use Rattle.vl_exec.specs.Visiting.{visited}
 abbrev pub key_in : Catalog → ℕ → List Value → Key
 key_in catalog number row = option_map_or (λ (table : Table). key_of number table row) (slice_get catalog.tables number) (record { table = number; pk = [] })
 
+-- where a row is inserted
+abbrev pub target_of : Catalog → ℕ → List Value → Target
+target_of catalog number row = record { shard = unwrap_or (place catalog number row) 0; key = key_in catalog number row }
+
+abbrev pub insertion_at : Target → List Value → Action
+insertion_at target row = record { shard = target.shard; act = Insert target.key row; old = None }
+
 -- a row is inserted on its place
 abbrev pub insertion : Catalog → ℕ → List Value → Action
-insertion catalog number row = record { shard = unwrap_or (place catalog number row) 0; act = Insert (key_in catalog number row) row; old = None }
+insertion catalog number row = insertion_at (target_of catalog number row) row
 
 -- the rows that match are read and locked, shard by shard, and then changed
-abbrev pub searching : Catalog → Pred → Route → RowChange → Progress
-searching catalog pred route change = record {
-  search = Some (record { find = Find pred true; change = change; shards = visited catalog pred.table route; read = 0; found = 0 });
+abbrev pub searching : Pred → RowChange → List ℕ → Progress
+searching pred change shards = record {
+  search = Some (record { find = Find pred true; change = change; shards = shards; read = 0; found = 0 });
   writes = [];
   done = 0;
+  wrote = false;
   tries = 0;
 }
 
 -- the rows are written in their order
 abbrev pub writing : List Action → Progress
-writing actions = record { search = None; writes = actions; done = 0; tries = 0 }
+writing actions = record { search = None; writes = actions; done = 0; wrote = false; tries = 0 }
 
 abbrev pub begun : Catalog → Plan → Progress
 begun catalog (plans.Insert plan) = writing (map (insertion catalog plan.table) plan.rows)
-begun catalog (plans.Update plan) = searching catalog plan.pred plan.route (Set plan.settings)
-begun catalog (plans.Delete plan) = searching catalog plan.pred plan.route Remove
+begun catalog (plans.Update plan) = searching plan.pred (Set plan.settings) (visited catalog plan.pred.table plan.route)
+begun catalog (plans.Delete plan) = searching plan.pred Remove (visited catalog plan.pred.table plan.route)
 begun catalog _ = writing []
 
 -- no lookup stands between a statement and the rows of the table of this number

@@ -1,5 +1,6 @@
 -- What a statement has done so far, as the shards show it.
-use Rattle.std.specs.Prelude.{◌≡◌, ◌<◌, ◌≤◌, ℕ, true, slice_get, Option, Some, None}
+use Rattle.std.specs.Prelude.{◌≡◌, ◌<◌, ◌≤◌, ◌↔◌, ℕ, true, slice_get, Option, Some, None}
+use Rattle.vl_values.specs.declared.group.Group.{Group}
 use Rattle.vl_values.specs.declared.group.Group.TheVariants.{Main}
 use Rattle.vl_values.specs.declared.key.Key.{Key}
 use Rattle.vl_values.specs.declared.reply.Reply.TheVariants as replies
@@ -18,13 +19,15 @@ use Rattle.vl_exec.specs.Changes.{write_of}
 use Rattle.vl_exec.specs.Making.{written_key}
 use Rattle.vl_exec.specs.Progress.{Progress}
 
+-- ---- shard by shard, so that the loss of one shard's session takes nothing from the others
+
 -- the row of the write, or its removal, is the session's pending version of its key
 abbrev pub IsWritten : View → Who → Act → Type 0
 IsWritten view who act = (key : Key) → written_key act ≡ Some key → view.pending key ≡ Some (record { who = who; row = row_left act })
 
--- each write that was done stands
-abbrev pub HasWritten : Shards → TxState → Progress → Type 0
-HasWritten seen tx p = (n : ℕ) (action : Action) → n < p.done → slice_get p.writes n ≡ Some action → IsWritten (seen action.shard) (session_of tx Main) action.act
+-- each write that was done on the shard stands
+abbrev pub HasWritten : Shards → TxState → Progress → ℕ → Type 0
+HasWritten seen tx p shard = (n : ℕ) (action : Action) → n < p.done → slice_get p.writes n ≡ Some action → action.shard ≡ shard → IsWritten (seen shard) (session_of tx Main) action.act
 
 -- the write is the change of the row that the session sees, and has the lock of
 pub record IsOwed (search : Search) (view : View) (who : Who) (action : Action) : Type 0 where
@@ -34,13 +37,13 @@ pub record IsOwed (search : Search) (view : View) (who : Who) (action : Action) 
   pub stands : standing view who key ≡ Some row
   pub held : view.holder key ≡ Some who
 
-abbrev pub AreOwedBy : Shards → TxState → Option Search → Progress → Type 0
-AreOwedBy seen tx None p = Unit {0}
-AreOwedBy seen tx (Some search) p = (n : ℕ) (action : Action) → p.done ≤ n → slice_get p.writes n ≡ Some action → IsOwed search (seen action.shard) (session_of tx Main) action
+abbrev pub AreOwedBy : Shards → TxState → Option Search → Progress → ℕ → Type 0
+AreOwedBy seen tx None p shard = Unit {0}
+AreOwedBy seen tx (Some search) p shard = (n : ℕ) (action : Action) → p.done ≤ n → slice_get p.writes n ≡ Some action → action.shard ≡ shard → IsOwed search (seen shard) (session_of tx Main) action
 
--- the rows that were found stand, under lock, until they are written
-abbrev pub AreOwed : Shards → TxState → Progress → Type 0
-AreOwed seen tx p = AreOwedBy seen tx p.search p
+-- the rows that were found on the shard stand, under lock, until they are written
+abbrev pub AreOwed : Shards → TxState → Progress → ℕ → Type 0
+AreOwed seen tx p shard = AreOwedBy seen tx p.search p shard
 
 -- ---- a refusal
 
@@ -51,7 +54,11 @@ LeavesOpen (told.Held by key tries) = ⊥
 LeavesOpen (told.Reply (replies.Ok affected found warnings tx auto)) = ⊥
 LeavesOpen (told.Reply (replies.Err code why tx)) = tx ≡ true
 
--- each key of each shard has the versions that it had
-pub record HasVersionsOf (old new : Shards) : Type 0 where
-  pub pending : (shard : ℕ) (key : Key) → (new shard).pending key ≡ (old shard).pending key
-  pub committed : (shard : ℕ) (key : Key) → (new shard).committed key ≡ (old shard).committed key
+-- the transaction's sessions have the pending versions that they had
+abbrev pub HasPendingOf : TxState → Shards → Shards → Type 0
+HasPendingOf tx old new = (shard : ℕ) (group : Group) (key : Key) (row : Option Values)
+    → ((old shard).pending key ≡ Some (record { who = session_of tx group; row = row })) ↔ ((new shard).pending key ≡ Some (record { who = session_of tx group; row = row }))
+
+-- each key that a session of the transaction held it holds
+abbrev pub HasLocksOf : TxState → Shards → Shards → Type 0
+HasLocksOf tx old new = (shard : ℕ) (group : Group) (key : Key) → (old shard).holder key ≡ Some (session_of tx group) → (new shard).holder key ≡ Some (session_of tx group)

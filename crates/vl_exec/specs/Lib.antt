@@ -2,6 +2,7 @@ pub mod Answering
 pub mod Begun
 pub mod Changes
 pub mod Effects
+pub mod Laying
 pub mod Making
 pub mod Progress
 pub mod Stepping

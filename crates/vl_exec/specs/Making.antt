@@ -65,6 +65,7 @@ pub record IsSearch (catalog : Catalog) (count : ℕ) (search : Search) (writes 
   pub within : (shard : ℕ) → Contains search.shards shard → shard < count
   pub ascending : AllPairs (λ one other. one < other) search.shards
   pub read : search.read ≤ length search.shards
+  pub counted : length writes ≤ search.found
   pub behind : (action : Action) (n shard : ℕ) → Contains writes action → search.read ≤ n → slice_get search.shards n ≡ Some shard → action.shard < shard
   pub ordered : AllPairs Precedes writes
 

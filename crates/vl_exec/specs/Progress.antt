@@ -1,5 +1,5 @@
 -- How far a statement has come: the action that is due, and what is left after one.
-use Rattle.std.specs.Prelude.{◌≡◌, ◌<◌, ◌⊎◌, ℕ, ◌+◌, ◌-◌, ◌==◌, Bool, not, List, [], ◌++◌, length, slice_get, Option, Some, None}
+use Rattle.std.specs.Prelude.{◌≡◌, ◌<◌, ◌⊎◌, ℕ, ◌+◌, ◌-◌, Bool, true, List, [], ◌++◌, length, slice_get, Option, Some, None}
 use Rattle.std.specs.Option.{option_map, option_map_or, option_or}
 use Rattle.vl_values.specs.declared.key.Key.{Key}
 use Rattle.vl_values.specs.declared.value.Value.{Value}
@@ -10,11 +10,12 @@ use Rattle.vl_exec.specs.declared.search.Search.{Search}
 use Rattle.vl_exec.specs.Changes.{writes_of}
 
 -- the search for rows, if the statement has one; the writes that are known so far, and how many of them
--- are done; how often the action that is due was answered `Held`
+-- are done; whether a version was written; how often the action that is due was answered `Held`
 pub record Progress : Type 0 where
   pub search : Option Search
   pub writes : List Action
   pub done : ℕ
+  pub wrote : Bool
   pub tries : ℕ
 
 -- the next locking read
@@ -31,7 +32,7 @@ due p = option_or (read_due_in p.search) (slice_get p.writes p.done)
 
 -- a write was done
 abbrev pub with_write : Progress → Progress
-with_write p = record p { done = p.done + 1; tries = 0 }
+with_write p = record p { done = p.done + 1; wrote = true; tries = 0 }
 
 abbrev pub has_read : ℕ → Search → Search
 has_read count search = record search { read = search.read + 1; found = search.found + count }
@@ -56,11 +57,11 @@ found_by (Set settings) found done = found
 abbrev pub found : Progress → ℕ
 found p = option_map_or (λ (search : Search). found_by search.change search.found p.done) p.search p.done
 
--- whether the statement has written
-abbrev pub has_written : Progress → Bool
-has_written p = not (p.done == 0)
-
 -- ---- the end of a statement
+
+-- how many reads and writes are done
+abbrev pub acts_done : Progress → ℕ
+acts_done p = option_map_or (λ (search : Search). search.read) p.search 0 + p.done
 
 -- how many shards are still to be read, and how many writes of those that are known still to be done
 abbrev pub reads_left : Progress → ℕ

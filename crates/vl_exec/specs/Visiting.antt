@@ -1,5 +1,5 @@
 -- The shards that a statement goes to, in the order of their numbers.
-use Rattle.std.specs.Prelude.{ℕ, Bool, true, ◌==◌, List, [], filter, slice_get}
+use Rattle.std.specs.Prelude.{ℕ, Bool, true, false, ◌==◌, ◌||◌, nat_lt, List, [], filter, length, slice_get}
 use Rattle.std.specs.List.{filter_map, list_any, range_with_len}
 use Rattle.std.specs.Option.{option_map_or}
 use Rattle.vl_values.specs.declared.value.Value.{Value}
@@ -17,10 +17,10 @@ keyspace_shards catalog k = range_with_len (first_shard catalog.rings k) (shards
 abbrev pub places_of : Catalog → ℕ → List Value → List ℕ
 places_of catalog number values = filter_map (place_of_value catalog number) values
 
--- whether a route of the table visits the shard
+-- whether a route of the table visits the shard. One value has its place; several visit each shard
 abbrev pub is_visited : Catalog → ℕ → Route → ℕ → Bool
-is_visited catalog number (routes.Primary values) shard = list_any (λ place. place == shard) (places_of catalog number values)
-is_visited catalog number (routes.Lookup l values) shard = true
+is_visited catalog number (routes.Primary values) shard = nat_lt 1 (length values) || list_any (λ place. place == shard) (places_of catalog number values)
+is_visited catalog number (routes.Lookup l values) shard = false
 is_visited catalog number routes.All shard = true
 
 -- those of the table's keyspace that its route visits

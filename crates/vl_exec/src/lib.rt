@@ -13,12 +13,14 @@ pub mod action;
 mod actions;
 mod answering;
 mod changes;
+mod groundwork;
 pub mod program;
 pub mod program_told;
 pub mod row_change;
 pub mod running;
 pub mod search;
 mod starting;
+mod target;
 #[cfg(test)]
 mod tests;
 mod visiting;

@@ -1,4 +1,4 @@
-ghost use Rattle.std.specs.Prelude.{◌≡◌, ◌≢◌, ◌<◌, ◌≤◌, ◌^◌, true, ℕ, IfOk, OnOk, OnErr, length};
+ghost use Rattle.std.specs.Prelude.{◌≡◌, ◌≢◌, ◌<◌, ◌≤◌, ◌+◌, ◌^◌, ◌⊎◌, true, false, ℕ, [], IfErr, IfOk, OnOk, OnErr, length};
 ghost use Rattle.std.specs.Option.{option_copied, option_map};
 ghost use Rattle.vl_values.specs.declared.cause.Cause.TheVariants as causes;
 ghost use Rattle.vl_port.specs.declared.answer.Answer.TheVariants as answers;
@@ -7,33 +7,37 @@ ghost use Rattle.vl_exec.specs.declared.action.Action.{Action as AnAction};
 ghost use Rattle.vl_exec.specs.declared.program_told.ProgramTold.TheVariants.{More};
 ghost use Rattle.vl_rules.specs.Order.{Checked};
 ghost use Rattle.vl_plan.specs.Fits.{Fits};
+ghost use Rattle.vl_port.specs.Asking.{IsSameTx};
 ghost use Rattle.vl_port.specs.Serving.{Serves};
 ghost use Rattle.vl_port.specs.Transaction.{IsIn, last_tx};
 ghost use Rattle.vl_catalog.specs.Place.{shard_count};
 ghost use Rattle.vl_exec.specs.Answering.{Answered, Goes, IsWell, OrNoMemory, Waits, refused, refused_whole, reply_of};
 ghost use Rattle.vl_exec.specs.Begun.{begun, can_run, searching, writing};
-ghost use Rattle.vl_exec.specs.Effects.{AreOwed, HasVersionsOf, HasWritten, LeavesOpen};
+ghost use Rattle.vl_exec.specs.Effects.{AreOwed, HasLocksOf, HasPendingOf, HasWritten, LeavesOpen};
+ghost use Rattle.vl_exec.specs.Laying.{HasRoomFor, begun_on};
 ghost use Rattle.vl_exec.specs.Making.{IsMade};
-ghost use Rattle.vl_exec.specs.Progress.{IsNearer, due, found, has_written, with_rows, with_write};
+ghost use Rattle.vl_exec.specs.Progress.{IsNearer, acts_done, due, found, with_rows, with_write};
 ghost use Rattle.vl_exec.specs.Stepping.{Stepped};
 
+use crate::action::Action;
 use crate::actions::Actions;
-use crate::answering::{ask, duplicate, lock_wait};
+use crate::answering::{duplicate, lock_wait};
+use crate::groundwork::Groundwork;
 use crate::program_told::ProgramTold;
 use crate::row_change::RowChange;
 use crate::search::Search;
-use crate::starting::insertions;
-use crate::visiting::{each_covers, visited};
+use crate::starting::{insertions, lay};
+use crate::visiting::each_covers;
 use std::alloc::{AllocError, Global};
 use std::marker::Model;
 use vl_catalog::Catalog;
-use vl_model::route::Route;
 use vl_plan::delete_plan::DeletePlan;
 use vl_plan::insert_plan::InsertPlan;
 use vl_plan::plan::Plan;
 use vl_plan::update_plan::UpdatePlan;
 use vl_port::act::Act;
 use vl_port::answer::Answer;
+use vl_port::asking::ask;
 use vl_port::found_rows::FoundRows;
 use vl_port::port::ShardPort;
 use vl_port::tx_state::TxState;
@@ -52,6 +56,7 @@ pub struct Program {
     search: Option<Search>,
     writes: Actions,
     done: usize,
+    wrote: bool,
     tries: u32,
 }
 
@@ -60,7 +65,7 @@ impl Model for Program {
 
     ghost Value = { Progress };
 
-    ghost view = { λ p. record { search = p.search; writes = p.writes; done = p.done; tries = p.tries } };
+    ghost view = { λ p. record { search = p.search; writes = p.writes; done = p.done; wrote = p.wrote; tries = p.tries } };
 }
 
 // The program of an INSERT, whose rows are written in their order.
@@ -71,22 +76,16 @@ fn writing(writes: Actions) -> Program
         search: None,
         writes,
         done: 0,
+        wrote: false,
         tries: 0,
     }
 }
 
 // The program of an UPDATE or a DELETE, which finds its rows first.
-fn searching(
-    alloc: Global,
-    catalog: &Catalog,
-    pred: Pred,
-    route: &Route,
-    change: RowChange,
-) -> Result<Program, AllocError>
-    requires { shard_count catalog.now.rings < 2 ^ 32 }
-    ensures { IfOk result (λ program. program ≡ searching catalog.now pred route.now change) }
+fn searching(pred: Pred, change: RowChange, shards: Vec<ShardNo>, writes: Vec<Action>) -> Program
+    requires { writes.items ≡ [] }
+    ensures { result ≡ searching pred change shards.items }
 {
-    let shards = visited(alloc, catalog, pred.table, route)?;
     let search = Search {
         find: Act::Find {
             pred,
@@ -97,34 +96,41 @@ fn searching(
         read: 0,
         found: 0,
     };
-    Ok(Program {
+    Program {
         search: Some(search),
-        writes: Actions::from_vec(Vec::new(alloc)),
+        writes: Actions::from_vec(writes),
         done: 0,
+        wrote: false,
         tries: 0,
-    })
+    }
 }
 
-fn begin(alloc: Global, catalog: &Catalog, plan: Plan) -> Result<Program, AllocError>
-    requires { shard_count catalog.now.rings < 2 ^ 32 }
-    ensures { IfOk result (λ program. program ≡ begun catalog.now plan) }
+// The program of a plan whose groundwork is laid. It takes no memory.
+fn begin(plan: Plan, laid: Groundwork) -> Program
+    requires { HasRoomFor plan laid }
+    ensures { result ≡ begun_on plan laid }
 {
+    let Groundwork {
+        targets,
+        actions,
+        shards,
+    } = laid;
     match plan {
-        Plan::Insert(InsertPlan { table, rows }) => {
-            let actions = insertions(alloc, catalog, table, rows.into_vec())?;
-            Ok(writing(Actions::from_vec(actions)))
+        Plan::Insert(InsertPlan { table: _, rows }) => {
+            let writes = insertions(targets, rows.into_vec(), actions);
+            writing(Actions::from_vec(writes))
         }
         Plan::Update(
             UpdatePlan {
                 settings,
                 pred,
-                route,
+                route: _,
             },
-        ) => searching(alloc, catalog, pred, &route, RowChange::Set(settings)),
-        Plan::Delete(DeletePlan { pred, route }) => {
-            searching(alloc, catalog, pred, &route, RowChange::Remove)
+        ) => searching(pred, RowChange::Set(settings), shards, actions),
+        Plan::Delete(DeletePlan { pred, route: _ }) => {
+            searching(pred, RowChange::Remove, shards, actions)
         }
-        _ => Ok(writing(Actions::from_vec(Vec::new(alloc)))),
+        _ => writing(Actions::from_vec(actions)),
     }
 }
 
@@ -135,16 +141,25 @@ fn refusal_whole(why: Cause) -> ProgramTold
 }
 
 impl Program {
-    /// The program of a plan: an INSERT, an UPDATE or a DELETE of a table without lookups.
-    pub fn start(alloc: Global, catalog: &Catalog, plan: Plan) -> Result<Program, AllocError>
+    /// The program of a plan: an INSERT, an UPDATE or a DELETE of a table without lookups. The plan comes
+    /// back where memory was refused.
+    pub fn start(
+        alloc: Global,
+        catalog: &Catalog,
+        plan: Plan,
+    ) -> Result<Program, (Plan, AllocError)>
         requires checked { Checked catalog.now }
         requires fits { Fits catalog.now plan }
         requires run { can_run catalog.now plan ≡ true }
         ensures begun { IfOk result (λ program. program ≡ begun catalog.now plan) }
         ensures made { IfOk result (λ program. (limit : ℕ) → 1 ≤ limit → IsMade catalog.now (shard_count catalog.now.rings) limit program) }
+        ensures back { IfErr result (λ back. back.0 ≡ plan) }
     {
         each_covers(catalog.rings.as_slice());
-        begin(alloc, catalog, plan)
+        match lay(alloc, catalog, &plan) {
+            Ok(laid) => Ok(begin(plan, laid)),
+            Err(full) => Err((plan, full)),
+        }
     }
 
     // The shard of the action that is due.
@@ -202,16 +217,10 @@ impl Program {
         })
     }
 
-    fn has_written(&self) -> bool
-        ensures { result ≡ has_written self.now }
-    {
-        self.done != 0
-    }
-
     fn refused(&self, tx: &TxState, why: Cause) -> ProgramTold
         ensures { result ≡ refused tx.now self.now why }
     {
-        let kept = !tx.single && !self.has_written();
+        let kept = !tx.single && !self.wrote;
         ProgramTold::Reply(Reply::refusal(why, kept))
     }
 
@@ -244,13 +253,14 @@ impl Program {
         if self.done < known {
             self.done += 1;
         }
+        self.wrote = true;
         self.tries = 0;
     }
 
     // A read gave these rows of a shard.
     fn take(&mut self, alloc: Global, shard: ShardNo, rows: FoundRows) -> Result<(), AllocError>
         ensures ok { OnOk result (self.new ≡ with_rows shard rows self.old) }
-        ensures err { OnErr result (self.new.done ≡ self.old.done) }
+        ensures err { OnErr result (self.new.wrote ≡ self.old.wrote) }
     {
         if let Some(search) = &mut self.search {
             let more = search.add_found(alloc, shard, rows)?;
@@ -337,7 +347,7 @@ impl Program {
         requires agree { P.catalog port.old ≡ catalog.now }
         requires number { tx.old.number ≤ last_tx }
         requires made { IsMade catalog.now (P.count port.old) tx.old.limits.tries self.old }
-        ensures stepped { Stepped catalog.now self.old tx.old (P.seen port.old) result self.new tx.new (P.seen port.new) }
+        ensures stepped { Stepped catalog.now self.old tx.old (record { shards = P.seen port.old; faults = P.faults port.old; carried = P.carried port.old }) result self.new tx.new (record { shards = P.seen port.new; faults = P.faults port.new; carried = P.carried port.new }) }
         ensures count { P.count port.new ≡ P.count port.old }
         ensures catalog { P.catalog port.new ≡ P.catalog port.old }
     {
@@ -347,7 +357,7 @@ impl Program {
         let Some(act) = self.due_act() else {
             return self.reply(tx);
         };
-        let asked = ask(port, tx, shard, act);
+        let asked = ask(port, tx, Group::Main, shard, act);
         match asked {
             Some(answer) => self.answered(alloc, catalog, tx, shard, answer),
             None => self.refused(tx, Cause::OutOfMemory),
@@ -374,21 +384,25 @@ impl Program {
         requires made { IsMade catalog.now (P.count port.old) tx.old.limits.tries self.old }
 
         // One action, that which was due, its answer, and what that means.
-        ensures stepped { Stepped catalog.now self.old tx.old (P.seen port.old) result self.new tx.new (P.seen port.new) }
+        ensures stepped { Stepped catalog.now self.old tx.old (record { shards = P.seen port.old; faults = P.faults port.old; carried = P.carried port.old }) result self.new tx.new (record { shards = P.seen port.new; faults = P.faults port.new; carried = P.carried port.new }) }
 
-        // The statement's writes stand, and the rows that it found do until they are written.
-        ensures written { HasWritten (P.seen port.old) tx.old self.old → IsWell result → HasWritten (P.seen port.new) tx.new self.new }
-        ensures owed { AreOwed (P.seen port.old) tx.old self.old → IsWell result → AreOwed (P.seen port.new) tx.new self.new }
+        // On each shard the statement's writes stand, and the rows that it found do until they are written.
+        ensures written { (shard : ℕ) → HasWritten (P.seen port.old) tx.old self.old shard → IsWell result → HasWritten (P.seen port.new) tx.new self.new shard }
+        ensures owed { (shard : ℕ) → AreOwed (P.seen port.old) tx.old self.old shard → IsWell result → AreOwed (P.seen port.new) tx.new self.new shard }
 
-        // A refusal that leaves the transaction open has changed no version.
-        ensures kept { LeavesOpen result → HasVersionsOf (P.seen port.old) (P.seen port.new) }
+        // Before the first write no pending version of the transaction changes, and so it is at a refusal
+        // that leaves it open. Its locks stay.
+        ensures kept { LeavesOpen result ⊎ (IsWell result × (self.new.wrote ≡ false)) → HasPendingOf tx.old (P.seen port.old) (P.seen port.new) }
+        ensures locked { LeavesOpen result ⊎ IsWell result → HasLocksOf tx.old (P.seen port.old) (P.seen port.new) }
 
-        // It comes to its end.
+        // It comes to its end: no more actions are done than there are shards to read and rows that are found.
         ensures bound { result ≡ More → IsNearer self.old self.new }
+        ensures counted { result ≡ More → acts_done self.new ≡ acts_done self.old + 1 }
 
         // What the next step asks for.
         ensures made { IsWell result → IsMade catalog.now (P.count port.new) tx.new.limits.tries self.new }
         ensures sessions { IsIn tx.new (P.count port.new) (P.seen port.new) }
+        ensures same { IsSameTx tx.old tx.new }
         // No session of another transaction opens or ends.
         ensures foreign { (shard : ℕ) (who : AWho) → who.tx ≢ tx.old.number → (P.seen port.new shard).sessions who ≡ (P.seen port.old shard).sessions who }
         ensures serves { Serves catalog.now (P.count port.new) (P.seen port.new) }

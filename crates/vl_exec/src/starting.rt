@@ -1,10 +1,15 @@
-ghost use Rattle.std.specs.Prelude.{◌≡◌, ◌<◌, ◌^◌, IfOk, map};
+ghost use Rattle.std.specs.Prelude.{◌≡◌, ◌+◌, ◌<◌, ◌≤◌, ◌++◌, ◌^◌, IfOk, length, map, vec_capacity, vec_len};
 ghost use Rattle.vl_catalog.specs.Place.{shard_count};
-ghost use Rattle.vl_exec.specs.Begun.{insertion, key_in};
+ghost use Rattle.vl_exec.specs.Begun.{key_in, target_of};
+ghost use Rattle.vl_exec.specs.Laying.{IsLaidFor, with_rows};
 
 use crate::action::Action;
+use crate::groundwork::Groundwork;
+use crate::target::Target;
+use crate::visiting::visited;
 use std::alloc::{AllocError, Global};
 use vl_catalog::Catalog;
+use vl_plan::plan::Plan;
 use vl_port::act::Act;
 use vl_values::TableNo;
 use vl_values::key::Key;
@@ -29,40 +34,87 @@ fn key_in(
     }
 }
 
-fn insertion(
+fn target_of(
     alloc: Global,
     catalog: &Catalog,
     number: TableNo,
-    row: Row,
-) -> Result<Action, AllocError>
+    row: &[Value],
+) -> Result<Target, AllocError>
     requires { shard_count catalog.now.rings < 2 ^ 32 }
-    ensures { IfOk result (λ action. action ≡ insertion catalog.now number row) }
+    ensures { IfOk result (λ target. target ≡ target_of catalog.now number row.now) }
 {
-    let key = key_in(alloc, catalog, number, row.as_slice())?;
-    let shard = match catalog.place_of(number, row.as_slice()) {
+    let key = key_in(alloc, catalog, number, row)?;
+    let shard = match catalog.place_of(number, row) {
         Some(shard) => shard,
         None => 0,
     };
-    Ok(Action {
-        shard,
-        act: Act::Insert { key, row },
-        old: None,
-    })
+    Ok(Target { shard, key })
 }
 
-/// The writes of an INSERT, a row after the other.
-pub(crate) fn insertions(
+// Where the rows go, in their order.
+fn targets_of(
     alloc: Global,
     catalog: &Catalog,
     number: TableNo,
-    rows: Vec<Row>,
-) -> Result<Vec<Action>, AllocError>
+    rows: &[Row],
+) -> Result<Vec<Target>, AllocError>
     requires { shard_count catalog.now.rings < 2 ^ 32 }
-    ensures { IfOk result (λ actions. actions.items ≡ map (insertion catalog.now number) rows.items) }
+    ensures { IfOk result (λ targets. targets.items ≡ map (target_of catalog.now number) rows.now) }
 {
-    let mut actions = Vec::with_capacity(alloc, rows.len())?;
+    let mut targets = Vec::with_capacity(alloc, rows.len())?;
     for row in rows {
-        actions.push(insertion(alloc, catalog, number, row)?)?;
+        targets.push(target_of(alloc, catalog, number, row.as_slice())?)?;
     }
-    Ok(actions)
+    Ok(targets)
+}
+
+/// All of a plan's program that takes memory.
+pub(crate) fn lay(alloc: Global, catalog: &Catalog, plan: &Plan) -> Result<Groundwork, AllocError>
+    requires { shard_count catalog.now.rings < 2 ^ 32 }
+    ensures { IfOk result (IsLaidFor catalog.now plan.now) }
+{
+    let mut targets = Vec::new(alloc);
+    let mut actions = Vec::new(alloc);
+    let mut shards = Vec::new(alloc);
+    match plan {
+        Plan::Insert(plan) => {
+            let rows = plan.rows.as_slice();
+            targets = targets_of(alloc, catalog, plan.table, rows)?;
+            actions = Vec::with_capacity(alloc, rows.len())?;
+        }
+        Plan::Update(plan) => {
+            shards = visited(alloc, catalog, plan.pred.table, &plan.route)?;
+        }
+        Plan::Delete(plan) => {
+            shards = visited(alloc, catalog, plan.pred.table, &plan.route)?;
+        }
+        _ => {}
+    }
+    Ok(Groundwork {
+        targets,
+        actions,
+        shards,
+    })
+}
+
+/// The writes of an INSERT, a row after the other. They take no memory.
+pub(crate) fn insertions(targets: Vec<Target>, rows: Vec<Row>, actions: Vec<Action>) -> Vec<Action>
+    requires pairs { length targets.items ≡ length rows.items }
+    requires room { vec_len actions + length rows.items ≤ vec_capacity actions }
+    ensures { result.items ≡ actions.items ++ with_rows targets.items rows.items }
+{
+    let mut actions = actions;
+    let mut left = targets.into_iter();
+    for row in rows {
+        let Target { shard, key } = left.next().unwrap();
+        let action = Action {
+            shard,
+            act: Act::Insert { key, row },
+            old: None,
+        };
+        let Ok(()) = actions.push(action) else {
+            return actions;
+        };
+    }
+    actions
 }

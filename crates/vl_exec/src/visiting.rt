@@ -2,7 +2,8 @@ ghost use Rattle.std.specs.Prelude.{◌≡◌, ◌<◌, ◌^◌, ◌==◌, ℕ, 
 ghost use Rattle.std.specs.List.{list_any};
 ghost use Rattle.vl_vindex.specs.Ring.{CoversOnce};
 ghost use Rattle.vl_catalog.specs.Place.{shard_count};
-ghost use Rattle.vl_exec.specs.Visiting.{is_visited, keyspace_shards, places_of, visited};
+ghost use Rattle.vl_model.specs.declared.route.Route.TheVariants as routes;
+ghost use Rattle.vl_exec.specs.Visiting.{is_visited, keyspace_shards, places_of, visited, visited_in};
 
 use std::alloc::{AllocError, Global};
 use vl_catalog::{Catalog, Table};
@@ -66,6 +67,26 @@ fn among(shards: Vec<ShardNo>, places: &[ShardNo]) -> Vec<ShardNo>
     shards
 }
 
+// The shards for these values of the column of the primary vindex. One value has its place; for several
+// each shard of the keyspace is visited.
+fn primary_visited(
+    alloc: Global,
+    catalog: &Catalog,
+    number: TableNo,
+    table: &Table,
+    values: &[Value],
+) -> Result<Vec<ShardNo>, AllocError>
+    requires { shard_count catalog.now.rings < 2 ^ 32 }
+    ensures { IfOk result (λ shards. shards.items ≡ visited_in catalog.now number (routes.Primary values.now) table.now) }
+{
+    let shards = keyspace_shards(alloc, catalog, table.keyspace)?;
+    if values.len() > 1 {
+        return Ok(shards);
+    }
+    let places = places_of(alloc, catalog, number, values)?;
+    Ok(among(shards, &places))
+}
+
 /// The shards that a route of the table of this number visits, in the order of their numbers.
 pub(crate) fn visited(
     alloc: Global,
@@ -79,12 +100,15 @@ pub(crate) fn visited(
     let Some(table) = catalog.tables.as_slice().get(number as usize) else {
         return Ok(Vec::new(alloc));
     };
-    let shards = keyspace_shards(alloc, catalog, table.keyspace)?;
     match route {
         Route::Primary(values) => {
-            let places = places_of(alloc, catalog, number, values.as_slice())?;
-            Ok(among(shards, &places))
+            let shards = primary_visited(alloc, catalog, number, table, values.as_slice())?;
+            Ok(shards)
         }
-        Route::Lookup(_, _) | Route::All => Ok(shards),
+        Route::All => {
+            let shards = keyspace_shards(alloc, catalog, table.keyspace)?;
+            Ok(shards)
+        }
+        Route::Lookup(_, _) => Ok(Vec::new(alloc)),
     }
 }

@@ -1,4 +1,5 @@
 pub mod Acting
+pub mod Asking
 pub mod Counting
 pub mod Holding
 pub mod Keeping

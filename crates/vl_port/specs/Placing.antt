@@ -1,5 +1,5 @@
 -- Acts and versions that fit the catalog: keys, rows and tests are of its tables, and rows stand on their shard.
-use Rattle.std.specs.Prelude.{◌≡◌, ℕ, true, slice_get, Option, Some}
+use Rattle.std.specs.Prelude.{◌≡◌, ℕ, true, slice_get, Some}
 use Rattle.vl_values.specs.declared.key.Key.{Key}
 use Rattle.vl_values.specs.declared.value.Value.{Value}
 use Rattle.vl_values.specs.Fit.{is_held}

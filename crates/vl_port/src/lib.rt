@@ -9,6 +9,7 @@
 
 pub mod act;
 pub mod answer;
+pub mod asking;
 pub mod change;
 pub mod committed;
 pub mod found_rows;

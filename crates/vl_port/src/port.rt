@@ -1,5 +1,6 @@
 ghost use Rattle.std.specs.Prelude.{◌≡◌, ◌≢◌, ◌<◌, ◌≤◌, ℕ, true};
 ghost use Rattle.std.specs.Option.{is_some};
+ghost use Rattle.vl_base.specs.Faults.{next_count};
 ghost use Rattle.vl_catalog.specs.declared.catalog.Catalog.{Catalog};
 ghost use Rattle.vl_port.specs.View.{View, has_group};
 ghost use Rattle.vl_port.specs.Acting.{Acted, Settled, Closed};
@@ -26,6 +27,9 @@ pub trait ShardPort {
     // how often the link and the disks of each shard have failed
     ghost faults: { Self → Faults };
 
+    // how many acts and commits were carried: each is carried once, and nothing else is
+    ghost carried: { Self → ℕ };
+
     // what each shard shows
     ghost seen: { Self → ℕ → View };
 
@@ -37,6 +41,7 @@ pub trait ShardPort {
         requires fits { IsActOn (catalog self.old) shard act.now }
         ensures acted { Acted (seen self.old shard) who act.now result (seen self.new shard) }
         ensures counted { IsCounted (faults self.old) shard result (faults self.new) }
+        ensures carried { carried self.new ≡ next_count (carried self.old) }
         ensures others { (other : ℕ) → other ≢ shard → seen self.new other ≡ seen self.old other }
         ensures count { count self.new ≡ count self.old }
         ensures catalog { catalog self.new ≡ catalog self.old };
@@ -48,6 +53,7 @@ pub trait ShardPort {
         requires opened { is_some ((seen self.old shard).sessions who) ≡ true }
         ensures settled { Settled (seen self.old shard) who result (seen self.new shard) }
         ensures counted { IsCommitCounted (faults self.old) shard result (faults self.new) }
+        ensures carried { carried self.new ≡ next_count (carried self.old) }
         ensures others { (other : ℕ) → other ≢ shard → seen self.new other ≡ seen self.old other }
         ensures count { count self.new ≡ count self.old }
         ensures catalog { catalog self.new ≡ catalog self.old };
@@ -59,6 +65,7 @@ pub trait ShardPort {
         requires opened { is_some ((seen self.old shard).sessions who) ≡ true }
         ensures closed { Closed (seen self.old shard) who (seen self.new shard) }
         ensures counted { faults self.new ≡ faults self.old }
+        ensures carried { carried self.new ≡ carried self.old }
         ensures others { (other : ℕ) → other ≢ shard → seen self.new other ≡ seen self.old other }
         ensures count { count self.new ≡ count self.old }
         ensures catalog { catalog self.new ≡ catalog self.old };

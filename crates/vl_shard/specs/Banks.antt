@@ -9,10 +9,11 @@ use Rattle.vl_port.specs.Keeping.{IsKept}
 use Rattle.vl_port.specs.Serving.{Serves}
 use Rattle.vl_shard.specs.Parts.{Parts, view_of}
 
--- the catalog, and the shards by their numbers
+-- the catalog, the shards by their numbers, and how many acts and commits were carried
 pub record BankParts : Type 0 where
   pub catalog : Catalog
   pub shards : List Parts
+  pub carried : ℕ
 
 -- where there is no shard, none was ever opened and nothing is held
 abbrev pub no_shard : Parts

@@ -1,4 +1,5 @@
 ghost use Rattle.std.specs.Prelude.{◌≡◌, ◌≢◌, ◌<◌, ◌^◌, ℕ, true, IfOk, length};
+ghost use Rattle.vl_base.specs.Faults.{next_count};
 ghost use Rattle.vl_catalog.specs.Place.{shard_count};
 ghost use Rattle.vl_port.specs.View.{has_group};
 ghost use Rattle.vl_port.specs.Acting.{Acted, Settled, Closed};
@@ -23,6 +24,7 @@ use vl_values::ShardNo;
 pub struct Bank {
     catalog: Catalog,
     shards: Vec<Shard>,
+    carried: u64,
 }
 
 impl Model for Bank {
@@ -30,9 +32,9 @@ impl Model for Bank {
 
     ghost Value = { BankParts };
 
-    ghost view = { λ b. record { catalog = b.catalog; shards = b.shards.items } };
+    ghost view = { λ b. record { catalog = b.catalog; shards = b.shards.items; carried = b.carried } };
 
-    ghost invariant = { λ b. IsServing (record { catalog = b.catalog; shards = b.shards.items }) };
+    ghost invariant = { λ b. IsServing (record { catalog = b.catalog; shards = b.shards.items; carried = b.carried }) };
 }
 
 // This many shards of their first incarnation, without rows and sessions.
@@ -53,11 +55,16 @@ impl Bank {
         ensures catalog { IfOk result (λ bank. bank.catalog ≡ catalog.now) }
         ensures new { IfOk result (λ bank. AreNew bank.shards (shard_count catalog.now.rings)) }
         ensures serves { IfOk result (λ bank. IsServing bank) }
+        ensures carried { IfOk result (λ bank. bank.carried ≡ 0) }
     {
         let count = catalog.shard_count().unwrap();
         let shards = new_shards(alloc, count)?;
         let catalog = catalog.copy(alloc)?;
-        Ok(Bank { catalog, shards })
+        Ok(Bank {
+            catalog,
+            shards,
+            carried: 0,
+        })
     }
 
     /// The catalog that is served.
@@ -74,6 +81,13 @@ impl Bank {
     {
         self.shards.len()
     }
+
+    /// How many acts and commits were carried; the count stands still at its end.
+    pub fn carried(&self) -> u64
+        ensures { result ≡ self.now.carried }
+    {
+        self.carried
+    }
 }
 
 impl ShardPort for Bank {
@@ -82,6 +96,8 @@ impl ShardPort for Bank {
     ghost count = { count_of };
 
     ghost faults = { λ b. no_faults };
+
+    ghost carried = { λ b. b.carried };
 
     ghost seen = { seen_of };
 
@@ -92,11 +108,13 @@ impl ShardPort for Bank {
         requires fits { IsActOn self.old.catalog shard act.now }
         ensures acted { Acted (seen_of self.old shard) who act.now result (seen_of self.new shard) }
         ensures counted { IsCounted no_faults shard result no_faults }
+        ensures carried { self.new.carried ≡ next_count self.old.carried }
         ensures others { (other : ℕ) → other ≢ shard → seen_of self.new other ≡ seen_of self.old other }
         ensures count { count_of self.new ≡ count_of self.old }
         ensures catalog { self.new.catalog ≡ self.old.catalog }
         ensures serves { IsServing self.new }
     {
+        self.carried = self.carried.saturating_add(1);
         self.shards[shard as usize].act(&who, act)
     }
 
@@ -105,11 +123,13 @@ impl ShardPort for Bank {
         requires { shard < count_of self.old }
         ensures settled { Settled (seen_of self.old shard) who result (seen_of self.new shard) }
         ensures counted { IsCommitCounted no_faults shard result no_faults }
+        ensures carried { self.new.carried ≡ next_count self.old.carried }
         ensures others { (other : ℕ) → other ≢ shard → seen_of self.new other ≡ seen_of self.old other }
         ensures count { count_of self.new ≡ count_of self.old }
         ensures catalog { self.new.catalog ≡ self.old.catalog }
         ensures serves { IsServing self.new }
     {
+        self.carried = self.carried.saturating_add(1);
         self.shards[shard as usize].commit(&who)
     }
 
@@ -118,6 +138,7 @@ impl ShardPort for Bank {
         requires { shard < count_of self.old }
         ensures closed { Closed (seen_of self.old shard) who (seen_of self.new shard) }
         ensures counted { no_faults ≡ no_faults }
+        ensures carried { self.new.carried ≡ self.old.carried }
         ensures others { (other : ℕ) → other ≢ shard → seen_of self.new other ≡ seen_of self.old other }
         ensures count { count_of self.new ≡ count_of self.old }
         ensures catalog { self.new.catalog ≡ self.old.catalog }

@@ -336,6 +336,8 @@ fn three_sessions_keep_to_their_own_keys(rt: HostRuntime) -> Result<(), Fail> {
         (1, Group::Pre, Call::Remove(1), Told::Held(2, 1)),
     ];
     play(&rt, alloc, &mut bank, &steps)?;
+    // 20 acts and one commit; the two closes aren't counted.
+    assert_eq!(rt; bank.carried(), 21);
     assert_eq!(rt; second(alloc, &mut bank, 7)?, Told::Keys(0));
     Ok(())
 }

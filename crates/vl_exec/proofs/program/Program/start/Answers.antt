@@ -1,10 +1,14 @@
-use Rattle.std.proofs.Common.{subst}
+use Rattle.std.proofs.Common.{List, length, sym, subst, ◌∙◌}
 use Rattle.vl_vindex.specs.KeyRange.{Range}
-use Rattle.std.proofs.Common.{List, length}
-use Rattle.vl_exec.proofs.Beginning.{AreCovering, begun_made, made_of}
+use Rattle.vl_catalog.specs.Place.{shard_count}
+use Rattle.vl_exec.specs.Making.{IsMade}
+use Rattle.vl_exec.proofs.Beginning.{AreCovering, begun_laid, begun_made}
 use Rattle.vl_exec.proofs.program.Program.start.Goals as goal
 
-pub returns-clause-made : goal.returns-clause-made
-returns-clause-made c =
-    made_of c.begin.result c.args.catalog.now c.args.plan c.begin.ensures
-    (λ limit least. begun_made c.args.catalog.now c.args.plan limit c.requires.checked (subst (λ (rings : List (List Range)). AreCovering rings (length rings)) c.as_slice.ensures c.each_covers.ensures) c.requires.fits least)
+pub returns-in-Ok-clause-made : goal.returns-in-Ok-clause-made
+returns-in-Ok-clause-made c = λ limit least.
+    subst (IsMade c.args.catalog.now (shard_count c.args.catalog.now.rings) limit) (sym (c.begin.ensures ∙ begun_laid c.args.catalog.now c.args.plan c.in-Ok.laid c.in-Ok.ensures))
+    (begun_made c.args.catalog.now c.args.plan limit c.requires.checked (subst (λ (rings : List (List Range)). AreCovering rings (length rings)) c.as_slice.ensures c.each_covers.ensures) c.requires.fits least)
+
+pub returns-in-Ok-clause-begun : goal.returns-in-Ok-clause-begun
+returns-in-Ok-clause-begun c = c.begin.ensures ∙ begun_laid c.args.catalog.now c.args.plan c.in-Ok.laid c.in-Ok.ensures
