@@ -27,22 +27,6 @@ use Rattle.vl_exec.proofs.Dues.{IsAt, done_writes, due_fits, due_is, never_uncha
 
 -- ---- the transaction is the same but for its list of sessions
 
-pub same_listed : (tx new : TxState) (shard : ℕ) (added : Bool) → Enlists tx Main shard added new → IsSameTx tx new
-same_listed tx new shard true h = record {
-  number = ap (λ (t : TxState). t.number) h.1;
-  session = ap (λ (t : TxState). t.session) h.1;
-  limits = ap (λ (t : TxState). t.limits) h.1;
-  auto = ap (λ (t : TxState). t.auto) h.1;
-  single = ap (λ (t : TxState). t.single) h.1;
-}
-same_listed tx new shard false h = record {
-  number = ap (λ (t : TxState). t.number) h.1;
-  session = ap (λ (t : TxState). t.session) h.1;
-  limits = ap (λ (t : TxState). t.limits) h.1;
-  auto = ap (λ (t : TxState). t.auto) h.1;
-  single = ap (λ (t : TxState). t.single) h.1;
-}
-
 pub limits_kept : (tx new : TxState) → IsSameTx tx new → new.limits.tries ≡ tx.limits.tries
 limits_kept tx new same = ap (λ (l : Limits). l.tries) same.limits
 

@@ -16,9 +16,10 @@ use Rattle.vl_port.specs.declared.who.Who.{Who}
 use Rattle.vl_port.specs.Acting.{Acted}
 use Rattle.vl_port.specs.Holding.{needs}
 use Rattle.vl_port.specs.Asking.{ActsOn, AreSame, IsSameTx, PortView}
-use Rattle.vl_port.specs.Serving.{IsServed, Serves, Shards}
+use Rattle.vl_port.specs.Serving.{Serves, Shards}
 use Rattle.vl_port.specs.Transaction.{IsIn, session_of}
 use Rattle.vl_port.specs.View.{View, is_who}
+use Rattle.vl_port.proofs.Asked.{same_enlisted, same_from, serves_same}
 use Rattle.vl_port.proofs.Enlisting.{in_acted, in_same, session_enlisted}
 use Rattle.vl_port.proofs.Naming.{is_who-true}
 use Rattle.vl_port.proofs.Served.{serves_acted}
@@ -33,7 +34,7 @@ use Rattle.vl_exec.specs.declared.search.Search.{Search}
 use Rattle.vl_exec.specs.Making.{IsMade}
 use Rattle.vl_exec.specs.Progress.{IsNearer, Progress, acts_done, due, with_write}
 use Rattle.vl_exec.specs.Stepping.{Did, Idle, NoRoom, Stepped}
-use Rattle.vl_exec.proofs.Asking.{limits_kept, same_listed}
+use Rattle.vl_exec.proofs.Asking.{limits_kept}
 use Rattle.vl_exec.proofs.Dues.{IsDue, done_writes, due_fits, due_is, rows_read}
 use Rattle.vl_exec.proofs.Goings.{Read, Waited, Went, Wrote, ended, read_counts, reads_end, went, write_counts, writes_end}
 use Rattle.vl_exec.proofs.Keeping.{went_keeps}
@@ -55,12 +56,6 @@ written_same seen after tx p shard same before n action below at on = subst (λ 
 owed_same_by : (seen after : Shards) (tx : TxState) (o : Option Search) (p : Progress) (shard : ℕ) → AreSame seen after → AreOwedBy seen tx o p shard → AreOwedBy after tx o p shard
 owed_same_by seen after tx None p shard same before = tt
 owed_same_by seen after tx (Some it) p shard same before = λ n action from at on. subst (λ (v : View). IsOwed it v (session_of tx Main) action) (sym (same shard)) (before n action from at on)
-
-serves_same : (catalog : Catalog) (count : ℕ) (seen after : Shards) → AreSame seen after → Serves catalog count seen → Serves catalog count after
-serves_same catalog count seen after same serves = record {
-  shards = serves.shards;
-  each = λ shard within. subst (λ (v : View). IsServed catalog shard v) (sym (same shard)) (serves.each shard within);
-}
 
 unmoved : (port after : PortView) → after ≡ port → AreSame port.shards after.shards
 unmoved port after is shard = ap (λ (v : PortView). v.shards shard) is
@@ -233,7 +228,7 @@ stepped_made catalog count old new tx tx_new port after tells ready (NoRoom acti
 stepped_made catalog count old new tx tx_new port after tells ready (Did action answer is asked answered) well =
     let due_here = due_is old action is in
     let fits = due_fits catalog count tx.limits.tries old action ready.made due_here in
-    subst (λ (n : ℕ). IsMade catalog count n new) (sym (limits_kept tx tx_new (same_listed tx tx_new action.shard asked.listed.0 asked.listed.1)))
+    subst (λ (n : ℕ). IsMade catalog count n new) (sym (limits_kept tx tx_new (same_enlisted tx tx_new Main action.shard asked.listed.0 asked.listed.1)))
     (went_keeps catalog count tx.limits.tries old new action answer (port.shards action.shard) (after.shards action.shard) (session_of tx Main) ready.checked (ready.serves.each action.shard fits.0).placed ready.made due_here
     asked.acts.acted (went catalog tx old action answer tells new answered well))
 
@@ -247,19 +242,10 @@ stepped_sessions catalog count old new tx tx_new port after tells ready (Did act
     let fits = due_fits catalog count tx.limits.tries old action ready.made (due_is old action is) in
     in_acted tx tx_new count port.shards after.shards Main action.shard asked.listed.0 action.act answer ready.sessions asked.listed.1 fits.0 asked.acts.acted asked.room asked.acts.others
 
-same_from : (tx new : TxState) → new ≡ tx → IsSameTx tx new
-same_from tx new is = record {
-  number = ap (λ (t : TxState). t.number) is;
-  session = ap (λ (t : TxState). t.session) is;
-  limits = ap (λ (t : TxState). t.limits) is;
-  auto = ap (λ (t : TxState). t.auto) is;
-  single = ap (λ (t : TxState). t.single) is;
-}
-
 pub stepped_same : (catalog : Catalog) (old new : Progress) (tx tx_new : TxState) (port after : PortView) (tells : ProgramTold) → Stepped catalog old tx port tells new tx_new after → IsSameTx tx tx_new
 stepped_same catalog old new tx tx_new port after tells (Idle none replied same same_tx_is shown) = same_from tx tx_new same_tx_is
 stepped_same catalog old new tx tx_new port after tells (NoRoom action is replied unasked) = same_from tx tx_new unasked.same
-stepped_same catalog old new tx tx_new port after tells (Did action answer is asked answered) = same_listed tx tx_new action.shard asked.listed.0 asked.listed.1
+stepped_same catalog old new tx tx_new port after tells (Did action answer is asked answered) = same_enlisted tx tx_new Main action.shard asked.listed.0 asked.listed.1
 
 pub stepped_foreign : (catalog : Catalog) (old new : Progress) (tx tx_new : TxState) (port after : PortView) (tells : ProgramTold) (shard : ℕ) (who : Who) → Stepped catalog old tx port tells new tx_new after
     → who.tx ≢ tx.number → (after.shards shard).sessions who ≡ (port.shards shard).sessions who

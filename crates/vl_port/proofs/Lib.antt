@@ -1,3 +1,4 @@
+pub mod Asked
 pub mod Enlisting
 pub mod Keeps
 pub mod Naming

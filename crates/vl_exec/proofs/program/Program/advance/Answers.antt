@@ -3,7 +3,9 @@ use Rattle.std.specs.Option.{option_copied}
 use Rattle.vl_catalog.specs.declared.catalog.Catalog.{Catalog}
 use Rattle.vl_port.specs.Placing.{IsActOn}
 use Rattle.vl_exec.specs.Progress.{due}
-use Rattle.vl_exec.proofs.Asking.{asked_fits, did_at, done_within, limits_kept, no_room_at, same_listed, unchanged_never}
+use Rattle.vl_values.specs.declared.group.Group.TheVariants.{Main}
+use Rattle.vl_port.proofs.Asked.{same_enlisted}
+use Rattle.vl_exec.proofs.Asking.{asked_fits, did_at, done_within, limits_kept, no_room_at, unchanged_never}
 use Rattle.vl_exec.proofs.Dues.{due_at}
 use Rattle.vl_exec.proofs.program.Program.advance.Goals as goal
 
@@ -36,7 +38,7 @@ answered-requires-clause-memory g c = c.in-Some-asked.ensures.some.room
 pub answered-requires-clause-tries : goal.answered-requires-clause-tries
 answered-requires-clause-tries g c =
     let asked = c.in-Some-asked.ensures.some in
-    omega (arith, c.requires.made.tries, limits_kept c.args.tx.now c.ask-asked.new.tx (same_listed c.args.tx.now c.ask-asked.new.tx c.in-Some.shard asked.listed.0 asked.listed.1))
+    omega (arith, c.requires.made.tries, limits_kept c.args.tx.now c.ask-asked.new.tx (same_enlisted c.args.tx.now c.ask-asked.new.tx Main c.in-Some.shard asked.listed.0 asked.listed.1))
 
 pub returns-in-Some-asked-clause-stepped : goal.returns-in-Some-asked-clause-stepped
 returns-in-Some-asked-clause-stepped g c =

@@ -1,0 +1,4 @@
+pub mod Closings
+pub mod Leaving
+pub mod Places
+pub mod Steps

@@ -1,0 +1,102 @@
+-- A step of a commit: one shard session is committed on its shard, or none is left.
+use Rattle.std.specs.Prelude.{◌≡◌, ◌≢◌, ◌<◌, ◌≤◌, ℕ, ◌+◌, ◌-◌, List, [], ◌∷◌, ◌++◌, length, slice_get, Option, Some, None}
+use Rattle.vl_base.specs.Faults.{next_count}
+use Rattle.vl_values.specs.declared.group.Group.{Group}
+use Rattle.vl_values.specs.declared.group.Group.TheVariants.{Pre, Main, Post}
+use Rattle.vl_port.specs.declared.committed.Committed.{Committed}
+use Rattle.vl_port.specs.declared.committed.Committed.TheVariants as outcomes
+use Rattle.vl_port.specs.declared.tx_state.TxState.{TxState}
+use Rattle.vl_port.specs.declared.who.Who.{Who}
+use Rattle.vl_port.specs.Acting.{Settled}
+use Rattle.vl_port.specs.Asking.{PortView}
+use Rattle.vl_port.specs.Counting.{IsCommitCounted}
+use Rattle.vl_port.specs.Transaction.{listed, session_of}
+use Rattle.vl_commit.specs.declared.commit_told.CommitTold.{CommitTold}
+use Rattle.vl_commit.specs.declared.commit_told.CommitTold.TheVariants as told
+use Rattle.vl_commit.specs.declared.failure.Failure.{Failure}
+use Rattle.vl_commit.specs.declared.failure.Failure.TheVariants as failures
+use Rattle.vl_commit.specs.declared.warning.Warning.{Warning}
+use Rattle.vl_commit.specs.Closing.{AreClosed}
+use Rattle.vl_commit.specs.Sessions.{Session, sessions}
+
+-- the transaction, how many of its sessions were dealt with, and the commits of post that failed
+pub record Committing : Type 0 where
+  pub tx : TxState
+  pub at : ℕ
+  pub warnings : List Warning
+
+-- the session that is due
+abbrev pub due : Committing → Option Session
+due c = slice_get (sessions c.tx) c.at
+
+-- there is room for the warnings that may come
+abbrev pub HasRoom : Committing → ℕ → Type 0
+HasRoom c capacity = (c.at ≤ length (sessions c.tx)) × (length c.warnings ≤ c.at - (length c.tx.pre + length c.tx.main)) × (c.at < length (sessions c.tx) → length c.tx.post ≤ capacity)
+
+-- one commit on one shard, and its outcome. It was carried once, and a fault is told only where its count rose
+pub record HasCommitted (old : PortView) (who : Who) (shard : ℕ) (outcome : Committed) (new : PortView) : Type 0 where
+  pub settled : Settled (old.shards shard) who outcome (new.shards shard)
+  pub others : (other : ℕ) → other ≢ shard → new.shards other ≡ old.shards other
+  pub counted : IsCommitCounted old.faults shard outcome new.faults
+  pub carried : new.carried ≡ next_count old.carried
+
+-- closing asks neither link nor disk
+pub record HasClosed (c : Committing) (old new : PortView) : Type 0 where
+  pub closed : AreClosed c.tx (c.at + 1) (length (sessions c.tx) - (c.at + 1)) old.shards new.shards
+  pub calm : new.faults ≡ old.faults
+  pub carried : new.carried ≡ old.carried
+
+abbrev pub outcome_of : Failure → Committed
+outcome_of (failures.Lost why) = outcomes.Lost why
+outcome_of failures.Device = outcomes.Device
+
+-- ---- what is left, and what is told
+
+abbrev pub passed : Committing → Committing
+passed c = record c { at = c.at + 1 }
+
+abbrev pub warned : ℕ → Failure → Committing → Committing
+warned shard why c = record c { at = c.at + 1; warnings = c.warnings ++ record { shard = shard; why = why } ∷ [] }
+
+-- another session is due, or all were dealt with; the port is as it was between
+abbrev pub GoesTo : Option Session → Committing → CommitTold → Committing → PortView → PortView → Type 0
+GoesTo None c tells new between port = (tells ≡ told.Ok c.warnings) × (new ≡ record c { warnings = [] }) × (port ≡ between)
+GoesTo (Some session) c tells new between port = (tells ≡ told.More) × (new ≡ c) × (port ≡ between)
+
+-- what is told then, and what is left of the commit
+abbrev pub TellsOf : Option Session → Committing → CommitTold → Committing → Type 0
+TellsOf None c tells new = (tells ≡ told.Ok c.warnings) × (new ≡ record c { warnings = [] })
+TellsOf (Some session) c tells new = (tells ≡ told.More) × (new ≡ c)
+
+abbrev pub Goes : Committing → CommitTold → Committing → PortView → PortView → Type 0
+Goes c tells new between port = GoesTo (due c) c tells new between port
+
+-- the place of the group's first session
+abbrev pub start_of : TxState → Group → ℕ
+start_of tx Pre = 0
+start_of tx Main = length tx.pre
+start_of tx Post = length tx.pre + length tx.main
+
+-- so many commits of the group were answered as done, of how many
+abbrev pub failed : Committing → Session → Failure → CommitTold
+failed c session why = told.Failed session.0 (c.at - start_of c.tx session.0) (length (listed c.tx session.0)) session.1 why
+
+-- the commit has come to its end
+abbrev pub IsOver : CommitTold → Type 0
+IsOver told.More = ⊥
+IsOver (told.Ok warnings) = Unit {0}
+IsOver (told.Failed group done of_ shard why) = Unit {0}
+
+-- a step: what it told, and the commit and the port after it
+pub data CommitStepped (old : Committing) (port : PortView) (tells : CommitTold) (new : Committing) (port_new : PortView) : Type 0 where
+  -- no session is left
+  Idle : due old ≡ None → Goes old tells new port port_new → CommitStepped old port tells new port_new
+  -- the session that was due is committed
+  Passed : (session : Session) (between : PortView) → due old ≡ Some session → HasCommitted port (session_of old.tx session.0) session.1 outcomes.Done between → Goes (passed old) tells new between port_new
+      → CommitStepped old port tells new port_new
+  -- its commit in post failed, which is a warning
+  Warned : (session : Session) (why : Failure) (between : PortView) → due old ≡ Some session → session.0 ≡ Post → HasCommitted port (session_of old.tx session.0) session.1 (outcome_of why) between
+      → Goes (warned session.1 why old) tells new between port_new → CommitStepped old port tells new port_new
+  -- its commit in pre or main failed, and the sessions behind it are closed
+  Failed : (session : Session) (why : Failure) (between : PortView) → due old ≡ Some session → session.0 ≢ Post → HasCommitted port (session_of old.tx session.0) session.1 (outcome_of why) between
+      → tells ≡ failed old session why → new ≡ old → HasClosed old between port_new → CommitStepped old port tells new port_new

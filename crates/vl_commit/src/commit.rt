@@ -1,0 +1,202 @@
+ghost use Rattle.std.specs.Prelude.{◌≡◌, ◌≢◌, ◌≤◌, ◌<◌, ◌+◌, ◌-◌, ◌++◌, ◌∷◌, ℕ, [], IfErr, IfOk, length};
+ghost use Rattle.vl_values.specs.declared.group.Group.TheVariants.{Post as InPost};
+ghost use Rattle.vl_port.specs.declared.who.Who.{Who as AWho};
+ghost use Rattle.vl_port.specs.Serving.{Serves};
+ghost use Rattle.vl_port.specs.Transaction.{IsIn, last_tx};
+ghost use Rattle.vl_port.specs.View.{View};
+ghost use Rattle.vl_commit.specs.declared.commit_told.CommitTold.TheVariants.{More};
+ghost use Rattle.vl_commit.specs.Closing.{AreClosed};
+ghost use Rattle.vl_commit.specs.Sessions.{AreLeft, HasEnded, sessions};
+ghost use Rattle.vl_commit.specs.Stepping.{CommitStepped, IsOver, TellsOf, due, failed, passed, start_of, warned};
+
+use crate::closing::close_from;
+use crate::commit_told::CommitTold;
+use crate::failure::Failure;
+use crate::sessions::{session_at, session_count};
+use crate::warning::Warning;
+use std::alloc::{AllocError, Global};
+use std::marker::Model;
+use vl_port::committed::Committed;
+use vl_port::port::ShardPort;
+use vl_port::tx_state::TxState;
+use vl_values::ShardNo;
+use vl_values::group::Group;
+use vl_values::items::Items;
+
+/// The commit of a transaction, one shard session at a time.
+#[derive(Drop)]
+pub struct Commit {
+    alloc: Global,
+    tx: TxState,
+    at: usize,
+    warnings: Vec<Warning>,
+}
+
+impl Model for Commit {
+    ghost use Rattle.std.specs.Prelude.{vec_capacity};
+    ghost use Rattle.vl_commit.specs.Stepping.{Committing, HasRoom};
+
+    ghost Value = { Committing };
+
+    ghost view = { λ c. record { tx = c.tx; at = c.at; warnings = c.warnings.items } };
+
+    ghost invariant = { λ c. HasRoom (record { tx = c.tx; at = c.at; warnings = c.warnings.items }) (vec_capacity c.warnings) };
+}
+
+impl Commit {
+    /// The commit of a transaction, before its first step. All memory is taken here; where it is refused
+    /// the transaction comes back.
+    pub fn start(alloc: Global, tx: TxState) -> Result<Commit, (TxState, AllocError)>
+        ensures ok { IfOk result (λ commit. commit ≡ record { tx = tx; at = 0; warnings = [] }) }
+        ensures left { IfOk result (λ commit. (count : ℕ) (seen : ℕ → View) → IsIn tx count seen → AreLeft commit.tx commit.at count seen) }
+        ensures back { IfErr result (λ back. back.0 ≡ tx) }
+    {
+        match Vec::with_capacity(alloc, tx.post.as_slice().len()) {
+            Ok(warnings) => Ok(Commit {
+                alloc,
+                tx,
+                at: 0,
+                warnings,
+            }),
+            Err(full) => Err((tx, full)),
+        }
+    }
+
+    /// The group and the shard of the session that is due.
+    pub fn due(&self) -> Option<(Group, ShardNo)>
+        ensures { result ≡ due self.now }
+    {
+        session_at(&self.tx, self.at)
+    }
+
+    /// Gives the commit up: the sessions that are left are closed, and what was committed stays. It takes
+    /// no memory and can't fail.
+    pub fn abandon<P: ShardPort>(self, port: &mut P)
+        requires left { AreLeft self.tx self.at (P.count port.old) (P.seen port.old) }
+        requires number { self.tx.number ≤ last_tx }
+        requires serves { Serves (P.catalog port.old) (P.count port.old) (P.seen port.old) }
+        ensures closed { AreClosed self.tx self.at (length (sessions self.tx) - self.at) (P.seen port.old) (P.seen port.new) }
+        ensures ended { HasEnded self.tx (P.count port.new) (P.seen port.new) }
+        ensures calm { P.faults port.new ≡ P.faults port.old }
+        ensures carried { P.carried port.new ≡ P.carried port.old }
+        ensures serves { Serves (P.catalog port.new) (P.count port.new) (P.seen port.new) }
+        ensures count { P.count port.new ≡ P.count port.old }
+        ensures catalog { P.catalog port.new ≡ P.catalog port.old }
+        ensures foreign { (shard : ℕ) (who : AWho) → who.tx ≢ self.tx.number → (P.seen port.new shard).sessions who ≡ (P.seen port.old shard).sessions who }
+    {
+        close_from(port, &self.tx, self.at);
+    }
+
+    // Whether another session is due.
+    fn go(&mut self) -> CommitTold
+        ensures { TellsOf (due self.old) self.old result self.new }
+    {
+        match session_at(&self.tx, self.at) {
+            Some(_) => CommitTold::More,
+            None => {
+                let warnings = std::mem::replace(&mut self.warnings, Vec::new(self.alloc));
+                CommitTold::Ok {
+                    warnings: Items::from_vec(warnings),
+                }
+            }
+        }
+    }
+
+    // The session that was due is committed.
+    fn pass(&mut self) -> CommitTold
+        requires { self.old.at < length (sessions self.old.tx) }
+        ensures { TellsOf (due (passed self.old)) (passed self.old) result self.new }
+    {
+        let count = session_count(&self.tx);
+        if self.at < count {
+            self.at += 1;
+        }
+        self.go()
+    }
+
+    // Its commit in post failed.
+    fn warn(&mut self, shard: ShardNo, why: Failure) -> CommitTold
+        requires due { self.old.at < length (sessions self.old.tx) }
+        requires post { start_of self.old.tx InPost ≤ self.old.at }
+        ensures { TellsOf (due (warned shard why self.old)) (warned shard why self.old) result self.new }
+    {
+        let count = session_count(&self.tx);
+        if self.at < count {
+            self.at += 1;
+        }
+        let Ok(()) = self.warnings.push(Warning { shard, why }) else {
+            return self.go();
+        };
+        self.go()
+    }
+
+    // Its commit in pre or main failed.
+    fn failed(&self, group: Group, shard: ShardNo, why: Failure) -> CommitTold
+        requires { start_of self.now.tx group ≤ self.now.at }
+        ensures { result ≡ failed self.now (group, shard) why }
+    {
+        let pre = self.tx.pre.as_slice().len();
+        let main = self.tx.main.as_slice().len();
+        let (first, of) = match group {
+            Group::Pre => (0, pre),
+            Group::Main => (pre, main),
+            Group::Post => (pre + main, self.tx.post.as_slice().len()),
+        };
+        CommitTold::Failed {
+            group,
+            done: self.at - first,
+            of,
+            shard,
+            why,
+        }
+    }
+
+    fn advance<P: ShardPort>(&mut self, port: &mut P) -> CommitTold
+        requires left { AreLeft self.old.tx self.old.at (P.count port.old) (P.seen port.old) }
+        requires number { self.old.tx.number ≤ last_tx }
+        ensures stepped { CommitStepped self.old (record { shards = P.seen port.old; faults = P.faults port.old; carried = P.carried port.old }) result self.new (record { shards = P.seen port.new; faults = P.faults port.new; carried = P.carried port.new }) }
+        ensures count { P.count port.new ≡ P.count port.old }
+        ensures catalog { P.catalog port.new ≡ P.catalog port.old }
+    {
+        let Some((group, shard)) = session_at(&self.tx, self.at) else {
+            return self.go();
+        };
+        let why = match port.commit(self.tx.who(group), shard) {
+            Committed::Done => return self.pass(),
+            Committed::Lost(why) => Failure::Lost(why),
+            Committed::Device => Failure::Device,
+        };
+        if group == Group::Post {
+            return self.warn(shard, why);
+        }
+        let told = self.failed(group, shard, why);
+        close_from(port, &self.tx, self.at + 1);
+        told
+    }
+
+    /// Commits the session that is due on its shard, and tells whether another is due or what the commit
+    /// is answered. It takes no memory.
+    ///
+    /// After an `Ok` or a `Failed` the commit is over, and no session of the transaction is open.
+    pub fn step<P: ShardPort>(&mut self, port: &mut P) -> CommitTold
+        requires left { AreLeft self.old.tx self.old.at (P.count port.old) (P.seen port.old) }
+        requires number { self.old.tx.number ≤ last_tx }
+        requires serves { Serves (P.catalog port.old) (P.count port.old) (P.seen port.old) }
+
+        // One commit, that of the session that was due, its outcome, and what that means.
+        ensures stepped { CommitStepped self.old (record { shards = P.seen port.old; faults = P.faults port.old; carried = P.carried port.old }) result self.new (record { shards = P.seen port.new; faults = P.faults port.new; carried = P.carried port.new }) }
+
+        // What the next step asks for; at the end nothing of the transaction is left.
+        ensures left { result ≡ More → AreLeft self.new.tx self.new.at (P.count port.new) (P.seen port.new) }
+        ensures ended { IsOver result → HasEnded self.old.tx (P.count port.new) (P.seen port.new) }
+        ensures same { self.new.tx ≡ self.old.tx }
+        ensures counted { result ≡ More → (self.new.at ≡ self.old.at + 1) × (self.new.at < length (sessions self.new.tx)) }
+        ensures serves { Serves (P.catalog port.new) (P.count port.new) (P.seen port.new) }
+        ensures count { P.count port.new ≡ P.count port.old }
+        ensures catalog { P.catalog port.new ≡ P.catalog port.old }
+        // No session of another transaction opens or ends.
+        ensures foreign { (shard : ℕ) (who : AWho) → who.tx ≢ self.old.tx.number → (P.seen port.new shard).sessions who ≡ (P.seen port.old shard).sessions who }
+    {
+        self.advance(port)
+    }
+}
