@@ -1,9 +1,10 @@
-ghost use Rattle.std.specs.Prelude.{◌≡◌, ◌<◌, ◌≤◌, false, IfOk};
+ghost use Rattle.std.specs.Prelude.{◌≡◌, ◌<◌, ◌≤◌, false, true, IfOk};
 ghost use Rattle.vl_catalog.specs.CatalogA.{catalog_a};
 ghost use Rattle.vl_port.specs.Placing.{IsActOn};
 ghost use Rattle.vl_port.specs.Taking.{takes_keys};
 ghost use Rattle.vl_port.specs.Transaction.{IsIn, last_tx};
-ghost use Rattle.vl_shard.specs.Banks.{count_of, seen_of};
+ghost use Rattle.vl_commit.specs.Sessions.{AreLeft};
+ghost use Rattle.vl_shard.specs.Banks.{IsServing, count_of, seen_of};
 
 use crate::closing::roll_back;
 use crate::commit::Commit;
@@ -131,30 +132,63 @@ fn insert_by(
     }
 }
 
+// A transaction with a row in each group, that of post first.
+fn three_rows(alloc: Global, catalog: &Catalog) -> Result<(Bank, TxState), Fail>
+    requires { catalog.now ≡ catalog_a }
+    ensures catalog { IfOk result (λ opened. opened.0.catalog ≡ catalog_a) }
+    ensures shards { IfOk result (λ opened. 0 < count_of opened.0) }
+    ensures number { IfOk result (λ opened. opened.1.number ≤ last_tx) }
+    ensures sessions { IfOk result (λ opened. IsIn opened.1 (count_of opened.0) (seen_of opened.0)) }
+    ensures serves { IfOk result (λ opened. IsServing opened.0) }
+{
+    let (mut bank, mut tx) = open(alloc, catalog)?;
+    insert_by(alloc, catalog, &mut bank, &mut tx, Group::Post, 3)?;
+    insert_by(alloc, catalog, &mut bank, &mut tx, Group::Main, 2)?;
+    insert_by(alloc, catalog, &mut bank, &mut tx, Group::Pre, 1)?;
+    Ok((bank, tx))
+}
+
+fn more(commit: &mut Commit, bank: &mut Bank) -> bool
+    requires left { AreLeft commit.old.tx commit.old.at (count_of bank.old) (seen_of bank.old) }
+    requires number { commit.old.tx.number ≤ last_tx }
+    requires serves { IsServing bank.old }
+    ensures left { result ≡ true → AreLeft commit.new.tx commit.new.at (count_of bank.new) (seen_of bank.new) }
+    ensures number { commit.new.tx.number ≤ last_tx }
+    ensures catalog { bank.new.catalog ≡ bank.old.catalog }
+    ensures count { count_of bank.new ≡ count_of bank.old }
+    ensures serves { IsServing bank.new }
+{
+    matches!(commit.step(bank), CommitTold::More)
+}
+
+// How many rows there are, and how many acts and commits were carried.
+fn seen(alloc: Global, bank: &mut Bank) -> (Option<usize>, u64)
+    requires catalog { bank.old.catalog ≡ catalog_a }
+    requires shards { 0 < count_of bank.old }
+{
+    let answer = bank.act(NOBODY, 0, &look(alloc));
+    (rows(answer), bank.carried())
+}
+
 #[test]
 fn a_commit_goes_over_all_groups(rt: HostRuntime) -> Result<(), Fail> {
     let alloc = rt.alloc();
     let catalog = Catalog::a(alloc)?;
-    let (mut bank, mut tx) = open(alloc, &catalog)?;
-    insert_by(alloc, &catalog, &mut bank, &mut tx, Group::Post, 3)?;
-    insert_by(alloc, &catalog, &mut bank, &mut tx, Group::Main, 2)?;
-    insert_by(alloc, &catalog, &mut bank, &mut tx, Group::Pre, 1)?;
-
+    let (mut bank, tx) = three_rows(alloc, &catalog)?;
     let Ok(mut commit) = Commit::start(alloc, tx) else {
         return Err("memory for a commit".into());
     };
-    let CommitTold::More = commit.step(&mut bank) else {
+    if !more(&mut commit, &mut bank) {
         return Err("the session of pre".into());
-    };
-    let CommitTold::More = commit.step(&mut bank) else {
+    }
+    if !more(&mut commit, &mut bank) {
         return Err("the session of main".into());
-    };
+    }
     let CommitTold::Ok { warnings } = commit.step(&mut bank) else {
         return Err("the session of post".into());
     };
     assert_eq!(rt; warnings.as_slice().len(), 0);
-    assert_eq!(rt; rows(bank.act(NOBODY, 0, &look(alloc))), Some(3));
-    assert_eq!(rt; bank.carried(), 7);
+    assert_eq!(rt; seen(alloc, &mut bank), (Some(3), 7));
     Ok(())
 }
 
@@ -162,11 +196,8 @@ fn a_commit_goes_over_all_groups(rt: HostRuntime) -> Result<(), Fail> {
 fn nothing_stays_of_what_is_rolled_back(rt: HostRuntime) -> Result<(), Fail> {
     let alloc = rt.alloc();
     let catalog = Catalog::a(alloc)?;
-    let (mut bank, mut tx) = open(alloc, &catalog)?;
-    insert_by(alloc, &catalog, &mut bank, &mut tx, Group::Main, 1)?;
-    insert_by(alloc, &catalog, &mut bank, &mut tx, Group::Pre, 2)?;
+    let (mut bank, tx) = three_rows(alloc, &catalog)?;
     roll_back(&mut bank, tx);
-    assert_eq!(rt; rows(bank.act(NOBODY, 0, &look(alloc))), Some(0));
-    assert_eq!(rt; bank.carried(), 3);
+    assert_eq!(rt; seen(alloc, &mut bank), (Some(0), 4));
     Ok(())
 }

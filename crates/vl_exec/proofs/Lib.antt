@@ -7,5 +7,6 @@ pub mod Goings
 pub mod Keeping
 pub mod Owing
 pub mod Settings
+pub mod Staged
 pub mod Steps
 pub mod Writings

@@ -41,7 +41,7 @@ abbrev pub AreOwedBy : Shards → TxState → Option Search → Progress → ℕ
 AreOwedBy seen tx None p shard = Unit {0}
 AreOwedBy seen tx (Some search) p shard = (n : ℕ) (action : Action) → p.done ≤ n → slice_get p.writes n ≡ Some action → action.shard ≡ shard → IsOwed search (seen shard) (session_of tx Main) action
 
--- the rows that were found on the shard stand, under lock, until they are written
+-- the rows that are still to be written on the shard stand as they were found, under lock
 abbrev pub AreOwed : Shards → TxState → Progress → ℕ → Type 0
 AreOwed seen tx p shard = AreOwedBy seen tx p.search p shard
 

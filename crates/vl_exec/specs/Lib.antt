@@ -5,5 +5,6 @@ pub mod Effects
 pub mod Laying
 pub mod Making
 pub mod Progress
+pub mod Staging
 pub mod Stepping
 pub mod Visiting

@@ -22,5 +22,9 @@ pub mod search;
 mod starting;
 mod target;
 #[cfg(test)]
+mod test_catalogs;
+#[cfg(test)]
+mod test_stage;
+#[cfg(test)]
 mod tests;
 mod visiting;

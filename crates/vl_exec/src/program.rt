@@ -386,7 +386,7 @@ impl Program {
         // One action, that which was due, its answer, and what that means.
         ensures stepped { Stepped catalog.now self.old tx.old (record { shards = P.seen port.old; faults = P.faults port.old; carried = P.carried port.old }) result self.new tx.new (record { shards = P.seen port.new; faults = P.faults port.new; carried = P.carried port.new }) }
 
-        // On each shard the statement's writes stand, and the rows that it found do until they are written.
+        // On each shard the statement's writes stand, and so do the rows that it still is to write.
         ensures written { (shard : ℕ) → HasWritten (P.seen port.old) tx.old self.old shard → IsWell result → HasWritten (P.seen port.new) tx.new self.new shard }
         ensures owed { (shard : ℕ) → AreOwed (P.seen port.old) tx.old self.old shard → IsWell result → AreOwed (P.seen port.new) tx.new self.new shard }
 
@@ -395,7 +395,7 @@ impl Program {
         ensures kept { LeavesOpen result ⊎ (IsWell result × (self.new.wrote ≡ false)) → HasPendingOf tx.old (P.seen port.old) (P.seen port.new) }
         ensures locked { LeavesOpen result ⊎ IsWell result → HasLocksOf tx.old (P.seen port.old) (P.seen port.new) }
 
-        // It comes to its end: no more actions are done than there are shards to read and rows that are found.
+        // It comes to its end, by one action after another.
         ensures bound { result ≡ More → IsNearer self.old self.new }
         ensures counted { result ≡ More → acts_done self.new ≡ acts_done self.old + 1 }
 

@@ -1,0 +1,211 @@
+ghost use Rattle.std.specs.Prelude.{◌≡◌, ◌≢◌, ◌≤◌, ℕ, IfOk, IfSome};
+ghost use Rattle.vl_catalog.specs.Place.{shard_count};
+ghost use Rattle.vl_rules.specs.Order.{Checked};
+ghost use Rattle.vl_port.specs.declared.who.Who.{Who as AWho};
+ghost use Rattle.vl_port.specs.Serving.{Serves};
+ghost use Rattle.vl_shard.specs.Banks.{count_of, seen_of};
+ghost use Rattle.vl_exec.specs.Answering.{IsWell};
+ghost use Rattle.vl_exec.specs.Making.{IsMade};
+ghost use Rattle.vl_exec.specs.Staging.{IsClient};
+
+use crate::program::Program;
+use crate::program_told::ProgramTold;
+use crate::running::can_run;
+use crate::test_catalogs::catalog_n;
+use std::alloc::Global;
+use std::marker::Model;
+use std::test::Fail;
+use vl_catalog::Catalog;
+use vl_plan::planning::plan;
+use vl_port::committed::Committed;
+use vl_port::limits::Limits;
+use vl_port::port::ShardPort;
+use vl_port::tx_state::TxState;
+use vl_shard::bank::Bank;
+use vl_sql::parse;
+use vl_values::group::Group;
+use vl_values::{SessionNo, ShardNo};
+
+// A transaction, and the program of its statement, until that has its reply.
+type Client = (TxState, Option<Program>);
+
+const MOST_CLIENTS: usize = 8;
+
+// The program of a statement's text.
+fn program_of(alloc: Global, catalog: &Catalog, text: &str) -> Result<Program, Fail>
+    requires { Checked catalog.now }
+    ensures { IfOk result (λ program. (limit : ℕ) → 1 ≤ limit → IsMade catalog.now (shard_count catalog.now.rings) limit program) }
+{
+    let Ok(statement) = parse(alloc, text.as_bytes()) else {
+        return Err("a statement".into());
+    };
+    let Ok(plan) = plan(alloc, catalog, &statement) else {
+        return Err("a statement that the catalog takes".into());
+    };
+    if !can_run(catalog, &plan) {
+        return Err("a plan that programs run".into());
+    }
+    match Program::start(alloc, catalog, plan) {
+        Ok(program) => Ok(program),
+        Err(_) => Err("memory for a program".into()),
+    }
+}
+
+// The program, unless its statement has the reply.
+fn unless_over(told: &ProgramTold, program: Program) -> Option<Program>
+    ensures { IfSome result (λ it. IsWell told.now × (it ≡ program)) }
+{
+    match told {
+        ProgramTold::More
+        | ProgramTold::Held {
+            by: _,
+            key: _,
+            tries: _,
+        } => Some(program),
+        ProgramTold::Reply(_) => None,
+    }
+}
+
+// In a function of its own, since what stood there is dropped.
+fn put(place: &mut Option<Program>, program: Option<Program>)
+    ensures { place.new ≡ program }
+{
+    *place = program;
+}
+
+// A step of the client's program; None where it has none.
+fn turn(
+    alloc: Global,
+    catalog: &Catalog,
+    bank: &mut Bank,
+    client: &mut Client,
+) -> Option<ProgramTold>
+    requires checked { Checked catalog.now }
+    requires agree { bank.old.catalog ≡ catalog.now }
+    requires serves { Serves catalog.now (count_of bank.old) (seen_of bank.old) }
+    requires client { IsClient catalog.now (seen_of bank.old) client.old }
+    ensures agree { bank.new.catalog ≡ catalog.now }
+    ensures serves { Serves catalog.now (count_of bank.new) (seen_of bank.new) }
+    ensures client { IsClient catalog.now (seen_of bank.new) client.new }
+    ensures number { client.new.0.number ≡ client.old.0.number }
+    ensures foreign { (shard : ℕ) (who : AWho) → who.tx ≢ client.old.0.number → (seen_of bank.new shard).sessions who ≡ (seen_of bank.old shard).sessions who }
+{
+    let mut program = client.1.take()?;
+    let told = program.step(alloc, catalog, bank, &mut client.0);
+    put(&mut client.1, unless_over(&told, program));
+    Some(told)
+}
+
+// Commits the client's session that was listed last, and strikes it off; None where none is listed.
+fn commit(bank: &mut Bank, client: &mut Client) -> Option<(ShardNo, Committed)>
+    requires serves { Serves bank.old.catalog (count_of bank.old) (seen_of bank.old) }
+    requires client { IsClient bank.old.catalog (seen_of bank.old) client.old }
+    ensures agree { bank.new.catalog ≡ bank.old.catalog }
+    ensures serves { Serves bank.new.catalog (count_of bank.new) (seen_of bank.new) }
+    ensures client { IsClient bank.old.catalog (seen_of bank.new) client.new }
+    ensures number { client.new.0.number ≡ client.old.0.number }
+    ensures foreign { (shard : ℕ) (who : AWho) → who.tx ≢ client.old.0.number → (seen_of bank.new shard).sessions who ≡ (seen_of bank.old shard).sessions who }
+{
+    let shard = *client.0.main.as_slice().last()?;
+    let committed = bank.commit(client.0.who(Group::Main), shard);
+    client.0.strike(Group::Main);
+    Some((shard, committed))
+}
+
+/// Transactions side by side on the shards of one catalog.
+#[derive(Drop)]
+pub(crate) struct Stage {
+    catalog: Catalog,
+    bank: Bank,
+    clients: Vec<Client>,
+}
+
+impl Model for Stage {
+    ghost use Rattle.std.specs.Prelude.{◌≡◌};
+    ghost use Rattle.vl_shard.specs.Banks.{count_of, seen_of};
+    ghost use Rattle.vl_exec.specs.Staging.{AreClients};
+
+    ghost Value = { Unit {0} };
+
+    ghost view = { λ s. tt };
+
+    ghost invariant = { λ s. AreClients s.catalog (count_of s.bank) (seen_of s.bank) s.clients.items × (s.bank.catalog ≡ s.catalog) };
+}
+
+impl Stage {
+    /// Two empty shards, and nobody on them.
+    pub(crate) fn new(alloc: Global) -> Result<Stage, Fail> {
+        let catalog = catalog_n(alloc)?;
+        let Some(2) = catalog.shard_count() else {
+            return Err("two shards".into());
+        };
+        let bank = Bank::new(alloc, &catalog)?;
+        Ok(Stage {
+            catalog,
+            bank,
+            clients: Vec::new(alloc),
+        })
+    }
+
+    /// One more transaction, whose place is told.
+    pub(crate) fn join(
+        &mut self,
+        alloc: Global,
+        session: SessionNo,
+        limits: Limits,
+        auto: bool,
+        single: bool,
+    ) -> Result<usize, Fail> {
+        let place = self.clients.len();
+        if place >= MOST_CLIENTS {
+            return Err("few clients".into());
+        }
+        let tx = TxState::new(alloc, place as u64, session, limits, auto, single);
+        self.clients.push((tx, None))?;
+        Ok(place)
+    }
+
+    /// The client's next statement.
+    pub(crate) fn start(&mut self, alloc: Global, place: usize, text: &str) -> Result<(), Fail> {
+        let program = program_of(alloc, &self.catalog, text)?;
+        if place >= self.clients.len() || self.clients[place].0.limits.tries == 0 {
+            return Err("a client that tries".into());
+        }
+        self.clients[place].1 = Some(program);
+        Ok(())
+    }
+
+    /// A step of the client's statement; None where it has its reply.
+    pub(crate) fn step(&mut self, alloc: Global, place: usize) -> Option<ProgramTold> {
+        if place >= self.clients.len() {
+            return None;
+        }
+        turn(
+            alloc,
+            &self.catalog,
+            &mut self.bank,
+            &mut self.clients[place],
+        )
+    }
+
+    /// Commits the client's session that was listed last, and tells its shard; None where none is left.
+    pub(crate) fn commit_last(&mut self, place: usize) -> Option<(ShardNo, Committed)> {
+        if place >= self.clients.len() {
+            return None;
+        }
+        commit(&mut self.bank, &mut self.clients[place])
+    }
+
+    /// The shards of the client's sessions, in the order of first use.
+    pub(crate) fn listed(&self, place: usize) -> &[ShardNo] {
+        match self.clients.as_slice().get(place) {
+            Some(client) => client.0.main.as_slice(),
+            None => &[],
+        }
+    }
+
+    /// How many acts and commits were carried.
+    pub(crate) fn carried(&self) -> u64 {
+        self.bank.carried()
+    }
+}
