@@ -1,4 +1,4 @@
-ghost use Rattle.std.specs.Prelude.{◌≡◌, ◌≢◌, ◌≤◌, ℕ, IfOk, IfSome};
+ghost use Rattle.std.specs.Prelude.{◌≡◌, ◌≢◌, ◌≤◌, ℕ, IfOk, IfSome, Some};
 ghost use Rattle.vl_catalog.specs.Place.{shard_count};
 ghost use Rattle.vl_rules.specs.Order.{Checked};
 ghost use Rattle.vl_port.specs.declared.who.Who.{Who as AWho};
@@ -71,6 +71,13 @@ fn put(place: &mut Option<Program>, program: Option<Program>)
     ensures { place.new ≡ program }
 {
     *place = program;
+}
+
+// The client's next program.
+fn begin(client: &mut Client, program: Program)
+    ensures { client.new ≡ (client.old.0, Some program) }
+{
+    put(&mut client.1, Some(program));
 }
 
 // A step of the client's program; None where it has none.
@@ -167,11 +174,11 @@ impl Stage {
 
     /// The client's next statement.
     pub(crate) fn start(&mut self, alloc: Global, place: usize, text: &str) -> Result<(), Fail> {
-        let program = program_of(alloc, &self.catalog, text)?;
         if place >= self.clients.len() || self.clients[place].0.limits.tries == 0 {
             return Err("a client that tries".into());
         }
-        self.clients[place].1 = Some(program);
+        let program = program_of(alloc, &self.catalog, text)?;
+        begin(&mut self.clients[place], program);
         Ok(())
     }
 
