@@ -9,12 +9,13 @@ use Rattle.vl_port.specs.Acting.{Closed, closed}
 use Rattle.vl_port.specs.Serving.{Serves, Shards}
 use Rattle.vl_port.specs.Transaction.{session_of}
 use Rattle.vl_port.specs.View.{View}
+use Rattle.vl_port.proofs.Asked.{same_or_other}
 use Rattle.vl_port.proofs.Naming.{is_who-same}
 use Rattle.vl_port.proofs.Served.{serves_closed}
 use Rattle.vl_port.proofs.Strangers.{apart_by_tx, stranger_closed}
 use Rattle.vl_commit.specs.Closing.{AreClosed, with_all_closed, with_closed}
 use Rattle.vl_commit.specs.Sessions.{AreLeft, Session, sessions}
-use Rattle.vl_commit.proofs.Leaving.{EndsOne, left_next, same_or_other}
+use Rattle.vl_commit.proofs.Leaving.{EndsOne, left_next}
 
 -- the sessions from the one place to the other are closed
 pub record ClosesTo (catalog : Catalog) (count : ℕ) (tx : TxState) (from n : ℕ) (old new : Shards) : Type 0 where
@@ -22,14 +23,6 @@ pub record ClosesTo (catalog : Catalog) (count : ℕ) (tx : TxState) (from n : �
   pub are : AreClosed tx from (n - from) old new
   pub serves : Serves catalog count old → Serves catalog count new
   pub foreign : (shard : ℕ) (who : Who) → who.tx ≢ tx.number → (new shard).sessions who ≡ (old shard).sessions who
-
-pub closes_none : (catalog : Catalog) (count : ℕ) (tx : TxState) (from : ℕ) (seen : Shards) → AreLeft tx from count seen → ClosesTo catalog count tx from from seen seen
-closes_none catalog count tx from seen left = record {
-  left = left;
-  are = let none : 0 ≡ from - from = omega arith in subst (λ (k : ℕ). AreClosed tx from k seen seen) none (λ shard. refl);
-  serves = λ it. it;
-  foreign = λ shard who apart. refl;
-}
 
 ends_closed : (old new : Shards) (who : Who) (shard : ℕ) → Closed (old shard) who (new shard) → ((other : ℕ) → other ≢ shard → new other ≡ old other) → EndsOne old new who shard
 ends_closed old new who shard closed others = record {

@@ -1,14 +1,15 @@
 -- Which sessions are left after one of them has ended.
-use Rattle.std.proofs.Common.{zero, suc, [], ◌∷◌, ◌≡◌, ◌≢◌, ℕ, ◌+◌, ◌≤◌, ◌⊎◌, inl, inr, true, false, List, length, Option, Some, None, refl, sym, ap, ◌∙◌, subst, arith, eqb-true}
-use Rattle.std.specs.Prelude.{Contains, ◌==◌, slice_get}
+use Rattle.std.proofs.Common.{zero, suc, [], ◌∷◌, ◌≡◌, ◌≢◌, ℕ, ◌+◌, ◌≤◌, ◌⊎◌, inl, inr, true, false, List, length, Option, Some, None, refl, sym, ap, ◌∙◌, subst, arith}
+use Rattle.std.specs.Prelude.{Contains, slice_get}
 use Rattle.std.specs.Option.{is_some}
-use Rattle.std.proofs.lemmas.Bool.{cases_Bool, eqb-false}
+use Rattle.std.proofs.lemmas.Bool.{cases_Bool}
 use Rattle.std.proofs.lemmas.Option.{get_or_from_slice_get, same_Some, slice_get-get_or, slice_get_within}
 use Rattle.vl_port.specs.declared.tx_state.TxState.{TxState}
 use Rattle.vl_port.specs.declared.who.Who.{Who}
 use Rattle.vl_port.specs.Serving.{Shards}
 use Rattle.vl_port.specs.Transaction.{IsIn, listed, session_of}
 use Rattle.vl_port.specs.View.{View, is_who}
+use Rattle.vl_port.proofs.Asked.{same_or_other}
 use Rattle.vl_port.proofs.Enlisting.{groups_apart}
 use Rattle.vl_port.proofs.Naming.{is_who-true}
 use Rattle.vl_commit.specs.Sessions.{AreLeft, HasEnded, Session, sessions}
@@ -25,7 +26,7 @@ at_contains xs x among = slice_get-get_or xs among.0 x among.1 ∙ ap (λ (y : �
 
 pub all_left : (tx : TxState) (count : ℕ) (seen : Shards) → IsIn tx count seen → AreLeft tx 0 count seen
 all_left tx count seen isin = record {
-  open_ = λ n session from at.
+  opened = λ n session from at.
       let p = place_of tx n session at in
       let among = contains_at (listed tx session.0) p.k session.1 p.at in
       let within = isin.within session.0 session.1 among in
@@ -43,9 +44,6 @@ pub record EndsOne (old new : Shards) (who : Who) (shard : ℕ) : Type 0 where
   pub ended : (new shard).sessions who ≡ None
   pub strangers : (other : Who) → is_who who other ≡ false → (new shard).sessions other ≡ (old shard).sessions other
   pub others : (s : ℕ) → s ≢ shard → new s ≡ old s
-
-pub same_or_other : (m n : ℕ) → (m ≡ n) ⊎ (m ≢ n)
-same_or_other m n = elim (cases_Bool (m == n)) [ inl same ↦ inl (eqb-true m n same) | inr apart ↦ inr (eqb-false m n apart) ]
 
 -- a session of the transaction that isn't this one is as it was
 kept_or_same : (tx : TxState) (old new : Shards) (session other : Session) → EndsOne old new (session_of tx session.0) session.1
@@ -72,8 +70,8 @@ behind m n from apart = grind (arith, from, apart)
 pub left_next : (tx : TxState) (from count : ℕ) (old new : Shards) (session : Session) → AreLeft tx from count old → slice_get (sessions tx) from ≡ Some session → EndsOne old new (session_of tx session.0) session.1
     → AreLeft tx (from + 1) count new
 left_next tx from count old new session left at ends = record {
-  open_ = λ n other behind_it other_at.
-      let was = left.open_ n other (omega (arith, behind_it)) other_at in
+  opened = λ n other behind_it other_at.
+      let was = left.opened n other (omega (arith, behind_it)) other_at in
       elim (kept_or_same tx old new session other ends) [
         | inl kept ↦ (was.0, ap is_some kept ∙ was.1)
         | inr same ↦

@@ -1,10 +1,10 @@
 -- Where a session stands among those of its transaction.
-use Rattle.std.proofs.Common.{◌≡◌, ◌≢◌, ℕ, zero, suc, ◌+◌, ◌<◌, ◌≤◌, ◌⊎◌, inl, inr, List, [], ◌∷◌, ◌++◌, length, get_or, map, Option, Some, None, refl, sym, ap, ◌∙◌, subst, arith, length-append}
+use Rattle.std.proofs.Common.{◌≡◌, ◌≢◌, ℕ, zero, suc, ◌+◌, ◌<◌, ◌⊎◌, inl, inr, List, [], ◌∷◌, ◌++◌, length, map, Option, Some, None, refl, sym, ap, ◌∙◌, subst, arith, length-append}
 use Rattle.std.specs.Prelude.{slice_get}
 use Rattle.std.specs.List.{AllPairs}
 use Rattle.std.specs.Option.{option_map}
 use Rattle.std.proofs.lemmas.List.{length-map}
-use Rattle.std.proofs.lemmas.Option.{get_or_from_slice_get, same_Some, slice_get-get_or, slice_get-map, slice_get_past, slice_get_within}
+use Rattle.std.proofs.lemmas.Option.{get_or_from_slice_get, same_Some, slice_get-map, slice_get_within}
 use Rattle.vl_values.specs.declared.group.Group.{Group}
 use Rattle.vl_values.specs.declared.group.Group.TheVariants.{Pre, Main, Post}
 use Rattle.vl_port.specs.declared.tx_state.TxState.{TxState}
@@ -103,13 +103,6 @@ count_of tx =
     )
 
 -- an element that was read
-pub given_at : (tx : TxState) (group : Group) (n k shard : ℕ) → n ≡ start_of tx group + k → k < length (listed tx group) → shard ≡ get_or (listed tx group) k shard → Some (group, shard) ≡ slice_get (sessions tx) n
-given_at tx group n k shard is within read =
-    sym (ap (slice_get (sessions tx)) is ∙ place_at tx group k shard (slice_get-get_or (listed tx group) k shard within ∙ ap (λ (s : ℕ). Some s) (sym read)))
-
-pub none_at : (tx : TxState) (n : ℕ) → length tx.pre + length tx.main + length tx.post ≤ n → None ≡ slice_get (sessions tx) n
-none_at tx n past = sym (slice_get_past (sessions tx) n (omega (arith, past, count_of tx)))
-
 -- ---- a session stands at one place
 
 elements_apart : (xs : List ℕ) (i j x : ℕ) → AllPairs (λ one other. one ≢ other) xs → i < j → slice_get xs i ≡ Some x → slice_get xs j ≡ Some x → ⊥

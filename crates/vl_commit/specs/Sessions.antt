@@ -24,7 +24,7 @@ IsOpen tx count seen session = (session.1 < count) × (is_some ((seen session.1)
 
 -- of the transaction's sessions those from this place on are open, and no others
 pub record AreLeft (tx : TxState) (from count : ℕ) (seen : Shards) : Type 0 where
-  pub open_ : (n : ℕ) (session : Session) → from ≤ n → slice_get (sessions tx) n ≡ Some session → IsOpen tx count seen session
+  pub opened : (n : ℕ) (session : Session) → from ≤ n → slice_get (sessions tx) n ≡ Some session → IsOpen tx count seen session
   pub only : (session : Session) → IsOpen tx count seen session → (n : ℕ) × (from ≤ n) × (slice_get (sessions tx) n ≡ Some session)
   pub once : (m n : ℕ) (session : Session) → slice_get (sessions tx) m ≡ Some session → slice_get (sessions tx) n ≡ Some session → m ≡ n
 

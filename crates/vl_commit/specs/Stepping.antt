@@ -46,10 +46,6 @@ pub record HasClosed (c : Committing) (old new : PortView) : Type 0 where
   pub calm : new.faults ≡ old.faults
   pub carried : new.carried ≡ old.carried
 
-abbrev pub outcome_of : Failure → Committed
-outcome_of (failures.Lost why) = outcomes.Lost why
-outcome_of failures.Device = outcomes.Device
-
 -- ---- what is left, and what is told
 
 abbrev pub passed : Committing → Committing
@@ -81,6 +77,24 @@ start_of tx Post = length tx.pre + length tx.main
 abbrev pub failed : Committing → Session → Failure → CommitTold
 failed c session why = told.Failed session.0 (c.at - start_of c.tx session.0) (length (listed c.tx session.0)) session.1 why
 
+-- the transaction is refused, and the sessions behind this one are closed
+pub record EndsAt (old : Committing) (session : Session) (why : Failure) (between : PortView) (tells : CommitTold) (new : Committing) (port : PortView) : Type 0 where
+  pub refused : tells ≡ failed old session why
+  pub same : new ≡ old
+  pub closed : HasClosed old between port
+
+-- a commit that failed ends the transaction in pre and main, and is a warning in post
+abbrev pub FailsIn : Group → Committing → Session → Failure → PortView → CommitTold → Committing → PortView → Type 0
+FailsIn Pre old session why between tells new port = EndsAt old session why between tells new port
+FailsIn Main old session why between tells new port = EndsAt old session why between tells new port
+FailsIn Post old session why between tells new port = Goes (warned session.1 why old) tells new between port
+
+-- what the outcome of a session's commit means
+abbrev pub DealsWith : Committed → Committing → Session → PortView → CommitTold → Committing → PortView → Type 0
+DealsWith outcomes.Done old session between tells new port = Goes (passed old) tells new between port
+DealsWith (outcomes.Lost why) old session between tells new port = FailsIn session.0 old session (failures.Lost why) between tells new port
+DealsWith outcomes.Device old session between tells new port = FailsIn session.0 old session failures.Device between tells new port
+
 -- the commit has come to its end
 abbrev pub IsOver : CommitTold → Type 0
 IsOver told.More = ⊥
@@ -91,12 +105,6 @@ IsOver (told.Failed group done of_ shard why) = Unit {0}
 pub data CommitStepped (old : Committing) (port : PortView) (tells : CommitTold) (new : Committing) (port_new : PortView) : Type 0 where
   -- no session is left
   Idle : due old ≡ None → Goes old tells new port port_new → CommitStepped old port tells new port_new
-  -- the session that was due is committed
-  Passed : (session : Session) (between : PortView) → due old ≡ Some session → HasCommitted port (session_of old.tx session.0) session.1 outcomes.Done between → Goes (passed old) tells new between port_new
-      → CommitStepped old port tells new port_new
-  -- its commit in post failed, which is a warning
-  Warned : (session : Session) (why : Failure) (between : PortView) → due old ≡ Some session → session.0 ≡ Post → HasCommitted port (session_of old.tx session.0) session.1 (outcome_of why) between
-      → Goes (warned session.1 why old) tells new between port_new → CommitStepped old port tells new port_new
-  -- its commit in pre or main failed, and the sessions behind it are closed
-  Failed : (session : Session) (why : Failure) (between : PortView) → due old ≡ Some session → session.0 ≢ Post → HasCommitted port (session_of old.tx session.0) session.1 (outcome_of why) between
-      → tells ≡ failed old session why → new ≡ old → HasClosed old between port_new → CommitStepped old port tells new port_new
+  -- the session that was due was committed on its shard, with this outcome
+  Dealt : (session : Session) (outcome : Committed) (between : PortView) → due old ≡ Some session → HasCommitted port (session_of old.tx session.0) session.1 outcome between
+      → DealsWith outcome old session between tells new port_new → CommitStepped old port tells new port_new

@@ -1,4 +1,4 @@
-ghost use Rattle.std.specs.Prelude.{◌≡◌, ◌≢◌, ◌≤◌, ◌<◌, ◌+◌, ◌-◌, ◌++◌, ◌∷◌, ℕ, [], IfErr, IfOk, length};
+ghost use Rattle.std.specs.Prelude.{◌≡◌, ◌≢◌, ◌≤◌, ◌<◌, ◌+◌, ◌-◌, ◌++◌, ◌∷◌, ℕ, [], Some, IfErr, IfOk, length};
 ghost use Rattle.vl_values.specs.declared.group.Group.TheVariants.{Post as InPost};
 ghost use Rattle.vl_port.specs.declared.who.Who.{Who as AWho};
 ghost use Rattle.vl_port.specs.Serving.{Serves};
@@ -7,7 +7,7 @@ ghost use Rattle.vl_port.specs.View.{View};
 ghost use Rattle.vl_commit.specs.declared.commit_told.CommitTold.TheVariants.{More};
 ghost use Rattle.vl_commit.specs.Closing.{AreClosed};
 ghost use Rattle.vl_commit.specs.Sessions.{AreLeft, HasEnded, sessions};
-ghost use Rattle.vl_commit.specs.Stepping.{CommitStepped, IsOver, TellsOf, due, failed, passed, start_of, warned};
+ghost use Rattle.vl_commit.specs.Stepping.{CommitStepped, DealsWith, EndsAt, FailsIn, IsOver, TellsOf, due, failed, passed, start_of, warned};
 
 use crate::closing::close_from;
 use crate::commit_told::CommitTold;
@@ -107,6 +107,7 @@ impl Commit {
         requires { self.old.at < length (sessions self.old.tx) }
         ensures { TellsOf (due (passed self.old)) (passed self.old) result self.new }
     {
+        // It always is: the test bounds the sum.
         let count = session_count(&self.tx);
         if self.at < count {
             self.at += 1;
@@ -124,6 +125,7 @@ impl Commit {
         if self.at < count {
             self.at += 1;
         }
+        // There is room, as the type keeps it.
         let Ok(()) = self.warnings.push(Warning { shard, why }) else {
             return self.go();
         };
@@ -151,6 +153,71 @@ impl Commit {
         }
     }
 
+    // A commit of pre or main that failed ends the transaction.
+    fn refuse<P: ShardPort>(
+        &self,
+        port: &mut P,
+        group: Group,
+        shard: ShardNo,
+        why: Failure,
+    ) -> CommitTold
+        requires due { due self.now ≡ Some (group, shard) }
+        requires left { AreLeft self.now.tx (self.now.at + 1) (P.count port.old) (P.seen port.old) }
+        requires number { self.now.tx.number ≤ last_tx }
+        ensures ends { EndsAt self.now (group, shard) why (record { shards = P.seen port.old; faults = P.faults port.old; carried = P.carried port.old }) result self.now (record { shards = P.seen port.new; faults = P.faults port.new; carried = P.carried port.new }) }
+        ensures count { P.count port.new ≡ P.count port.old }
+        ensures catalog { P.catalog port.new ≡ P.catalog port.old }
+    {
+        let told = self.failed(group, shard, why);
+        let within = self.at < session_count(&self.tx);
+        prove!(within);
+        close_from(port, &self.tx, self.at + 1);
+        told
+    }
+
+    // What a commit that failed means.
+    fn fail<P: ShardPort>(
+        &mut self,
+        port: &mut P,
+        group: Group,
+        shard: ShardNo,
+        why: Failure,
+    ) -> CommitTold
+        requires due { due self.old ≡ Some (group, shard) }
+        requires left { AreLeft self.old.tx (self.old.at + 1) (P.count port.old) (P.seen port.old) }
+        requires number { self.old.tx.number ≤ last_tx }
+        ensures fails { FailsIn group self.old (group, shard) why (record { shards = P.seen port.old; faults = P.faults port.old; carried = P.carried port.old }) result self.new (record { shards = P.seen port.new; faults = P.faults port.new; carried = P.carried port.new }) }
+        ensures count { P.count port.new ≡ P.count port.old }
+        ensures catalog { P.catalog port.new ≡ P.catalog port.old }
+    {
+        match group {
+            Group::Pre | Group::Main => self.refuse(port, group, shard, why),
+            Group::Post => self.warn(shard, why),
+        }
+    }
+
+    // What the outcome of the commit of the session that was due means.
+    fn deal<P: ShardPort>(
+        &mut self,
+        port: &mut P,
+        group: Group,
+        shard: ShardNo,
+        outcome: Committed,
+    ) -> CommitTold
+        requires due { due self.old ≡ Some (group, shard) }
+        requires left { AreLeft self.old.tx (self.old.at + 1) (P.count port.old) (P.seen port.old) }
+        requires number { self.old.tx.number ≤ last_tx }
+        ensures deals { DealsWith outcome self.old (group, shard) (record { shards = P.seen port.old; faults = P.faults port.old; carried = P.carried port.old }) result self.new (record { shards = P.seen port.new; faults = P.faults port.new; carried = P.carried port.new }) }
+        ensures count { P.count port.new ≡ P.count port.old }
+        ensures catalog { P.catalog port.new ≡ P.catalog port.old }
+    {
+        match outcome {
+            Committed::Done => self.pass(),
+            Committed::Lost(why) => self.fail(port, group, shard, Failure::Lost(why)),
+            Committed::Device => self.fail(port, group, shard, Failure::Device),
+        }
+    }
+
     fn advance<P: ShardPort>(&mut self, port: &mut P) -> CommitTold
         requires left { AreLeft self.old.tx self.old.at (P.count port.old) (P.seen port.old) }
         requires number { self.old.tx.number ≤ last_tx }
@@ -161,17 +228,8 @@ impl Commit {
         let Some((group, shard)) = session_at(&self.tx, self.at) else {
             return self.go();
         };
-        let why = match port.commit(self.tx.who(group), shard) {
-            Committed::Done => return self.pass(),
-            Committed::Lost(why) => Failure::Lost(why),
-            Committed::Device => Failure::Device,
-        };
-        if group == Group::Post {
-            return self.warn(shard, why);
-        }
-        let told = self.failed(group, shard, why);
-        close_from(port, &self.tx, self.at + 1);
-        told
+        let outcome = port.commit(self.tx.who(group), shard);
+        self.deal(port, group, shard, outcome)
     }
 
     /// Commits the session that is due on its shard, and tells whether another is due or what the commit

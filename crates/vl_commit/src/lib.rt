@@ -4,7 +4,7 @@
 // `Commit` does one commit a step and takes no memory after its start. The layer above relies on
 // `CommitStepped`: which session was committed, what its shard answered, and what that means. A commit of
 // pre or main that fails ends the transaction, whose other sessions are closed; one of post gives a warning.
-// `roll_back` closes all sessions.
+// `roll_back` closes all sessions, `abandon` those that a commit has left.
 #![tactic(auto)]
 
 pub mod closing;

@@ -1,11 +1,11 @@
 -- Loops that gather what a function gives of the items.
-use Rattle.std.proofs.Common.{◌≡◌, Bool, ℕ, zero, suc, ◌+◌, ◌<◌, ◌≤◌, List, [], ◌∷◌, ◌++◌, length, get_or, take, drop, map, Option, Some, None, refl, sym, ap, ◌∙◌, subst, arith, append_assoc}
-use Rattle.std.specs.Prelude.{◌==◌, ◌||◌, filter, fold, nat_lt, true, false}
+use Rattle.std.proofs.Common.{◌≡◌, Bool, ℕ, zero, suc, ◌+◌, ◌<◌, ◌≤◌, List, [], ◌∷◌, ◌++◌, length, get_or, take, drop, Option, Some, None, refl, sym, ap, ◌∙◌, subst, arith}
+use Rattle.std.specs.Prelude.{◌==◌, ◌||◌, filter, nat_lt, true, false}
 use Rattle.std.specs.List.{list_any, cons_option, filter_map, range_with_len, sum_by}
 use Rattle.std.proofs.lemmas.Bool.{lt-ltb}
 use Rattle.std.proofs.lemmas.List.{append-nil, take_more}
 use Rattle.std.proofs.lemmas.List.Elements.{filter_map-append}
-use Rattle.std.proofs.lemmas.List.Sums.{fold-append, sum_by-append, sum_by-take-drop}
+use Rattle.std.proofs.lemmas.List.Sums.{sum_by-append, sum_by-take-drop}
 use Rattle.std.proofs.lemmas.Option.{slice_get-get_or}
 use Rattle.std.specs.Option.{option_map_or}
 use Rattle.std.specs.List.{slice_get}
@@ -18,32 +18,7 @@ use Rattle.vl_model.specs.declared.route.Route.{Route}
 use Rattle.vl_model.specs.declared.route.Route.TheVariants as routes
 use Rattle.vl_exec.specs.Visiting.{keyspace_shards, places_of, visited, visited_in}
 
--- ---- items that are taken out of a list
-
-pub map_more : {A B : Type 0} (f : A → B) (all left : List A) (x : A) (rest : List A) (made new : List B) (y : B) → map f all ≡ made ++ map f left → left ≡ x ∷ rest → y ≡ f x → new ≡ made ++ y ∷ []
-    → map f all ≡ new ++ map f rest
-map_more f all left x rest made new y far e is pushed =
-    far ∙ ap (λ zs. made ++ map f zs) e ∙ ap (λ z. made ++ z ∷ map f rest) (sym is) ∙ sym (append_assoc made (y ∷ []) (map f rest)) ∙ ap (λ zs. zs ++ map f rest) (sym pushed)
-
-pub map_all : {A B : Type 0} (f : A → B) (all left : List A) (made : List B) → map f all ≡ made ++ map f left → left ≡ [] → made ≡ map f all
-map_all f all left made far none = sym (far ∙ ap (λ zs. made ++ map f zs) none ∙ append-nil made)
-
-pub filter_some : {A B : Type 0} (h : A → Option B) (all left : List A) (x : A) (rest : List A) (made new : List B) (y : B) → filter_map h all ≡ made ++ filter_map h left → left ≡ x ∷ rest → h x ≡ Some y
-    → new ≡ made ++ y ∷ [] → filter_map h all ≡ new ++ filter_map h rest
-filter_some h all left x rest made new y far e is pushed =
-    far ∙ ap (λ zs. made ++ filter_map h zs) e ∙ ap (λ o. made ++ cons_option o (filter_map h rest)) is ∙ sym (append_assoc made (y ∷ []) (filter_map h rest)) ∙ ap (λ zs. zs ++ filter_map h rest) (sym pushed)
-
-pub filter_none : {A B : Type 0} (h : A → Option B) (all left : List A) (x : A) (rest : List A) (made : List B) → filter_map h all ≡ made ++ filter_map h left → left ≡ x ∷ rest → h x ≡ None
-    → filter_map h all ≡ made ++ filter_map h rest
-filter_none h all left x rest made far e is = far ∙ ap (λ zs. made ++ filter_map h zs) e ∙ ap (λ o. made ++ cons_option o (filter_map h rest)) is
-
-pub filter_all : {A B : Type 0} (h : A → Option B) (all left : List A) (made : List B) → filter_map h all ≡ made ++ filter_map h left → left ≡ [] → made ≡ filter_map h all
-filter_all h all left made far none = sym (far ∙ ap (λ zs. made ++ filter_map h zs) none ∙ append-nil made)
-
 -- ---- items that are read by their places
-
-pub fold_more : {A B : Type 0} (f : B → A → B) (a : B) (xs : List A) (i : ℕ) (x : A) → i < length xs → get_or xs i x ≡ x → fold f a (take (i + 1) xs) ≡ f (fold f a (take i xs)) x
-fold_more f a xs i x within is = ap (fold f a) (take_more xs i x within) ∙ fold-append f a (take i xs) (get_or xs i x ∷ []) ∙ ap (f (fold f a (take i xs))) is
 
 pub take_some : {A B : Type 0} (h : A → Option B) (xs : List A) (i : ℕ) (x : A) (y : B) (made new : List B) → i < length xs → x ≡ get_or xs i x → h x ≡ Some y → made ≡ filter_map h (take i xs)
     → new ≡ made ++ y ∷ [] → new ≡ filter_map h (take (i + 1) xs)
@@ -86,10 +61,6 @@ shards_within rings k = omega (arith, sum_by-take-drop length rings k, first_of 
 
 pub visited_is : (catalog : Catalog) (number : ℕ) (table : Table) (route : Route) → slice_get catalog.tables number ≡ Some table → visited catalog number route ≡ visited_in catalog number route table
 visited_is catalog number table route at = ap (λ (o : Option Table). option_map_or (visited_in catalog number route) o []) at
-
-pub visits_some : (catalog : Catalog) (number : ℕ) (table : Table) (route : Route) (values : List Value) → slice_get catalog.tables number ≡ Some table → route ≡ routes.Primary values
-    → visited_in catalog number (routes.Primary values) table ≡ visited catalog number route
-visits_some catalog number table route values at is = sym (ap (visited catalog number) is ∙ visited_is catalog number table (routes.Primary values) at)
 
 filter_by : (b : Bool) (q : ℕ → Bool) (xs : List ℕ) → b ≡ true → xs ≡ filter (λ x. b || q x) xs
 filter_by true q xs is = sym (filter_each xs)

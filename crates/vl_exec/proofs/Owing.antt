@@ -21,6 +21,7 @@ use Rattle.vl_port.specs.Reading.{is_match, IsRead}
 use Rattle.vl_port.specs.Serving.{Shards}
 use Rattle.vl_port.specs.Transaction.{session_of}
 use Rattle.vl_port.specs.View.{View, Values, changed_to, is_who, standing, version_for}
+use Rattle.vl_port.proofs.Asked.{same_or_other}
 use Rattle.vl_exec.specs.declared.action.Action.{Action}
 use Rattle.vl_exec.specs.declared.search.Search.{Search}
 use Rattle.vl_exec.specs.Changes.{write_of, writes_of}
@@ -32,7 +33,7 @@ use Rattle.vl_exec.proofs.Dues.{IsDue, contains_at, done_writes, rows_read, sear
 use Rattle.vl_exec.proofs.Finding.{write_from, write_is}
 use Rattle.vl_exec.proofs.Goings.{Read, Waited, Went, Wrote}
 use Rattle.vl_exec.proofs.Keeping.{read_given, with_rows_is}
-use Rattle.vl_exec.proofs.Writings.{front_at, key_of_write, key_or_not, ordered_at, pending_other, precedes_apart, same_or_other}
+use Rattle.vl_exec.proofs.Writings.{front_at, key_of_write, key_or_not, ordered_at, pending_other, precedes_apart}
 
 -- ---- one shard
 
@@ -51,7 +52,7 @@ owed_on search old new who action owed stays = record {
   held = stays.holder owed.held;
 }
 
-still_holds : (b : Bool) (who : Who) (o : Option Who) → o ≡ Some who → cond b (Some who) o ≡ Some who
+pub still_holds : (b : Bool) (who : Who) (o : Option Who) → o ≡ Some who → cond b (Some who) o ≡ Some who
 still_holds true who o h = refl
 still_holds false who o h = h
 

@@ -1,5 +1,5 @@
 -- What a step keeps and changes, by what it did.
-use Rattle.std.proofs.Common.{◌≡◌, ◌≢◌, ◌⊎◌, ℕ, ◌+◌, ◌∙◌, inl, inr, Bool, true, false, cond, Option, Some, None, refl, sym, ap, subst}
+use Rattle.std.proofs.Common.{◌≡◌, ◌≢◌, ◌⊎◌, ℕ, ◌+◌, ◌∙◌, inl, inr, Bool, true, false, Option, Some, None, refl, sym, ap, subst}
 use Rattle.std.specs.Prelude.{nat_lt}
 use Rattle.std.proofs.lemmas.Bool.{cases_Bool}
 use Rattle.std.proofs.lemmas.Option.{slice_get_within}
@@ -19,7 +19,7 @@ use Rattle.vl_port.specs.Asking.{ActsOn, AreSame, IsSameTx, PortView}
 use Rattle.vl_port.specs.Serving.{Serves, Shards}
 use Rattle.vl_port.specs.Transaction.{IsIn, session_of}
 use Rattle.vl_port.specs.View.{View, is_who}
-use Rattle.vl_port.proofs.Asked.{same_enlisted, same_from, serves_same}
+use Rattle.vl_port.proofs.Asked.{same_or_other, same_enlisted, same_from, serves_same}
 use Rattle.vl_port.proofs.Enlisting.{in_acted, in_same, session_enlisted}
 use Rattle.vl_port.proofs.Naming.{is_who-true}
 use Rattle.vl_port.proofs.Served.{serves_acted}
@@ -38,8 +38,8 @@ use Rattle.vl_exec.proofs.Asking.{limits_kept}
 use Rattle.vl_exec.proofs.Dues.{IsDue, done_writes, due_fits, due_is, rows_read}
 use Rattle.vl_exec.proofs.Goings.{Read, Waited, Went, Wrote, ended, read_counts, reads_end, went, write_counts, writes_end}
 use Rattle.vl_exec.proofs.Keeping.{went_keeps}
-use Rattle.vl_exec.proofs.Owing.{went_owes}
-use Rattle.vl_exec.proofs.Writings.{same_or_other, same_tx, went_written}
+use Rattle.vl_exec.proofs.Owing.{still_holds, went_owes}
+use Rattle.vl_exec.proofs.Writings.{same_tx, went_written}
 
 -- what a step asks for
 pub record IsReady (catalog : Catalog) (count : ℕ) (seen : Shards) (tx : TxState) (p : Progress) : Type 0 where
@@ -136,10 +136,6 @@ stepped_kept catalog old new tx tx_new port after tells (Did action answer is as
     pending_same tx port.shards after.shards (λ shard key. answer_keeps catalog tx old new port.shards after.shards (session_of tx Main) action answer tells shard key asked.acts answered open_)
 
 -- ---- locks
-
-still_holds : (b : Bool) (who : Who) (o : Option Who) → o ≡ Some who → cond b (Some who) o ≡ Some who
-still_holds true who o h = refl
-still_holds false who o h = h
 
 -- a session that acts keeps the keys that it holds
 own_held : (old new : View) (who : Who) (act : Act) (answer : Answer) (key : Key) → old.holder key ≡ Some who → Acted old who act answer new → new.holder key ≡ Some who

@@ -1,10 +1,10 @@
 -- The writes that were done stand through each step after which the program goes on.
-use Rattle.std.proofs.Common.{◌≡◌, ◌≢◌, ℕ, ◌<◌, ◌≤◌, ◌⊎◌, inl, inr, Bool, true, false, cond, List, [], ◌++◌, length, get_or, Option, Some, None, refl, sym, ap, ◌∙◌, subst, arith, eqb-true}
-use Rattle.std.specs.Prelude.{◌==◌, slice_get}
+use Rattle.std.proofs.Common.{◌≡◌, ◌≢◌, ℕ, ◌<◌, ◌≤◌, ◌⊎◌, inl, inr, Bool, true, false, cond, List, [], ◌++◌, length, get_or, Option, Some, None, refl, sym, ap, ◌∙◌, subst, arith}
+use Rattle.std.specs.Prelude.{slice_get}
 use Rattle.std.specs.List.{AllPairs}
 use Rattle.std.specs.Option.{option_map, option_map_or}
 use Rattle.std.specs.Ordering.{is_lt}
-use Rattle.std.proofs.lemmas.Bool.{cases_Bool, eqb-false}
+use Rattle.std.proofs.lemmas.Bool.{cases_Bool}
 use Rattle.std.proofs.lemmas.Cmp.{tied_itself}
 use Rattle.std.proofs.lemmas.List.{get_or_append_left}
 use Rattle.std.proofs.lemmas.Option.{get_or_from_slice_get, same_Some, slice_get-get_or, slice_get_within}
@@ -25,6 +25,7 @@ use Rattle.vl_port.specs.Holding.{needs}
 use Rattle.vl_port.specs.Serving.{Shards}
 use Rattle.vl_port.specs.Transaction.{session_of}
 use Rattle.vl_port.specs.View.{View, Values, standing, version_for}
+use Rattle.vl_port.proofs.Asked.{same_or_other}
 use Rattle.vl_port.proofs.Naming.{is_who-same}
 use Rattle.vl_exec.specs.declared.action.Action.{Action}
 use Rattle.vl_exec.specs.declared.search.Search.{Search}
@@ -101,9 +102,6 @@ earlier_apart catalog count (Some search) writes view who m n one other a b is b
     precedes_apart one other a b (ordered_at writes m n one other is.ordered below at_one at_other) ka lb shards same
 
 -- ---- the shards
-
-pub same_or_other : (m n : ℕ) → (m ≡ n) ⊎ (m ≢ n)
-same_or_other m n = elim (cases_Bool (m == n)) [ inl same ↦ inl (eqb-true m n same) | inr apart ↦ inr (eqb-false m n apart) ]
 
 -- a write that was done before stands after another one
 stands_on : (old new : Shards) (who : Who) (action one : Action) (key own : Key) → ActsOn old who action.shard action.act Done new → IsWrite action.act → written_key action.act ≡ Some own → written_key one.act ≡ Some key

@@ -249,6 +249,7 @@ impl Program {
         requires { self.old.done < length self.old.writes }
         ensures { self.new ≡ with_write self.old }
     {
+        // It always is: the test bounds the sum.
         let known = self.writes.len();
         if self.done < known {
             self.done += 1;

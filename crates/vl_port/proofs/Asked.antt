@@ -63,7 +63,7 @@ asked_serves catalog tx new count group shard act old port None fits none some s
 asked_serves catalog tx new count group shard act old port (Some answer) fits none some serves =
     serves_acted catalog count old.shards port.shards (session_of tx group) shard act answer serves (λ takes. refl) fits some.acts.acted some.acts.others
 
-same_or_other : (m n : ℕ) → (m ≡ n) ⊎ (m ≢ n)
+pub same_or_other : (m n : ℕ) → (m ≡ n) ⊎ (m ≢ n)
 same_or_other m n = elim (cases_Bool (m == n)) [ inl same ↦ inl (eqb-true m n same) | inr apart ↦ inr (eqb-false m n apart) ]
 
 pub asked_foreign : (tx new : TxState) (group : Group) (shard : ℕ) (act : Act) (old port : PortView) (r : Option Answer) → IfNone r (IsUnasked old tx new port) → IfSome r (λ answer. HasAsked old tx group shard act answer new port)
