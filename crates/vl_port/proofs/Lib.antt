@@ -1,9 +1,10 @@
-pub mod Asked
-pub mod Enlisting
-pub mod Keeps
 pub mod Naming
+pub mod Lives
+pub mod Keeps
+pub mod Staying
+pub mod Strangers
 pub mod Placed
 pub mod Served
-pub mod Staying
-pub mod Counted
-pub mod Strangers
+pub mod Leaving
+pub mod Enlisting
+pub mod Answered

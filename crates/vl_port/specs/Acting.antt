@@ -1,5 +1,5 @@
--- What an act, a commit and a close answer, and what they do to what a port tells of the shard.
-use Rattle.std.specs.Prelude.{◌≡◌, Bool, true, false, ℕ, List, ◌&&◌, if◌then◌else◌, slice_index_or, Option, Some, None}
+-- What an act answers and does on a shard that is up, and what a commit leaves there.
+use Rattle.std.specs.Prelude.{◌≡◌, Bool, true, false, ℕ, List, if◌then◌else◌, slice_index_or, Option, Some, None}
 use Rattle.vl_values.specs.declared.key.Key.{Key}
 use Rattle.vl_values.specs.declared.value.Value.{Value}
 use Rattle.vl_values.specs.declared.value.Value.TheVariants.{Null}
@@ -9,21 +9,11 @@ use Rattle.vl_port.specs.declared.act.Act.TheVariants.{Insert, Put, Remove, Remo
 use Rattle.vl_port.specs.declared.answer.Answer.{Answer}
 use Rattle.vl_port.specs.declared.answer.Answer.TheVariants.{Done, Unchanged, Rows, Found, Held, Lost, Device, Limit, Memory}
 use Rattle.vl_port.specs.declared.change.Change.{Change}
-use Rattle.vl_port.specs.declared.committed.Committed.{Committed}
-use Rattle.vl_port.specs.declared.committed.Committed.TheVariants as outcome
-use Rattle.vl_port.specs.declared.opened.Opened.{Opened}
 use Rattle.vl_port.specs.declared.who.Who.{Who}
-use Rattle.vl_port.specs.View.{View, Values, is_who, has_group, standing, version_for}
+use Rattle.vl_port.specs.View.{View, Values, standing, version_for}
+use Rattle.vl_port.specs.Life.{closed, opened}
 use Rattle.vl_port.specs.Holding.{needs, IsFree, IsHeld}
 use Rattle.vl_port.specs.Reading.{IsRead}
-
--- a shard session opens with its first act, at the shard's incarnation, and stays as it was opened
-abbrev pub opened_at : ℕ → Option Opened → Option Opened
-opened_at incarnation None = Some (record { incarnation = incarnation; killed = false })
-opened_at incarnation (Some session) = Some session
-
-abbrev pub opened : Who → View → View
-opened who view = record view { sessions = λ w. if has_group who.group && is_who who w then opened_at view.incarnation (view.sessions w) else view.sessions w }
 
 -- the act has obtained its keys
 abbrev pub taken : Who → Act → View → View
@@ -78,44 +68,20 @@ IsFound view who (Remove key) k found = ⊥
 IsFound view who (RemoveIf key column value) k found = ⊥
 IsFound view who (Find pred locking) k found = ⊥
 
--- an act: its answer, and the shard after it. Want of memory alone is free, and changes nothing.
--- No link and no device stands between here, so that no session is lost and no device fails
+-- an act that is done on a shard which is up, by a session that isn't lost: its answer, and the shard
+-- after it. Want of memory alone is free, and changes nothing. A quantity that would pass its limit
+-- refuses a write that could else be done, with its keys left as they were
 abbrev pub Acted : View → Who → Act → Answer → View → Type 0
 Acted old who act Done new = IsFree old who act × CanWrite old who act × (new ≡ written who act old)
 Acted old who act Unchanged new = IsFree old who act × HasNothing old who act × (new ≡ taken who act old)
 Acted old who act (Rows rows) new = IsFree old who act × IsReadBy old who act rows × (new ≡ taken who act old)
 Acted old who act (Found key row) new = IsFree old who act × IsFound old who act key row × (new ≡ taken who act old)
 Acted old who act (Held by key) new = IsHeld old who act by key × (new ≡ opened who old)
+Acted old who act (Limit what count) new = IsFree old who act × CanWrite old who act × (new ≡ opened who old)
 Acted old who act (Lost why) new = ⊥
 Acted old who act Device new = ⊥
-Acted old who act (Limit what count) new = ⊥
 Acted old who act Memory new = new ≡ old
-
--- what a shard session held and changed falls away
-abbrev pub without : Who → Option Who → Option Who
-without who None = None
-without who (Some holder) = if is_who holder who then None else Some holder
-
-abbrev pub dropped : Who → Option Change → Option Change
-dropped who None = None
-dropped who (Some change) = if is_who change.who who then None else Some change
-
--- the shard session ends: its locks end and its pending versions fall away
-abbrev pub closed : Who → View → View
-closed who view = record view {
-  pending = λ k. dropped who (view.pending k);
-  holder = λ k. without who (view.holder k);
-  sessions = λ w. if is_who who w then None else view.sessions w;
-}
 
 -- the shard session is committed: its pending versions are the committed ones, and it ends
 abbrev pub settled : Who → View → View
 settled who view = closed who (record view { committed = λ k. version_for who (view.pending k) (view.committed k) })
-
-abbrev pub Settled : View → Who → Committed → View → Type 0
-Settled old who outcome.Done new = new ≡ settled who old
-Settled old who (outcome.Lost why) new = ⊥
-Settled old who outcome.Device new = ⊥
-
-abbrev pub Closed : View → Who → View → Type 0
-Closed old who new = new ≡ closed who old

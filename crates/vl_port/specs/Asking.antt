@@ -1,52 +1,63 @@
 -- An action of a transaction's session: it is listed, carried once, and answered.
-use Rattle.std.specs.Prelude.{◌≡◌, ◌≢◌, ◌⊎◌, ℕ, Bool}
-use Rattle.vl_base.specs.Faults.{next_count}
+use Rattle.std.specs.Prelude.{◌≡◌, ◌≤◌, ◌+◌, ◌-◌, ◌^◌, ℕ, Bool, true, false, min, Some, None}
 use Rattle.vl_values.specs.declared.group.Group.{Group}
 use Rattle.vl_port.specs.declared.act.Act.{Act}
 use Rattle.vl_port.specs.declared.answer.Answer.{Answer}
-use Rattle.vl_port.specs.declared.answer.Answer.TheVariants.{Memory}
+use Rattle.vl_port.specs.declared.answer.Answer.TheVariants.{Done, Unchanged, Rows, Found, Held, Lost, Device, Limit, Memory}
+use Rattle.vl_port.specs.declared.asked.Asked.{Asked}
+use Rattle.vl_port.specs.declared.asked.Asked.TheVariants.{Unlisted, Answered}
 use Rattle.vl_port.specs.declared.tx_state.TxState.{TxState}
 use Rattle.vl_port.specs.declared.who.Who.{Who}
-use Rattle.vl_port.specs.Acting.{Acted}
-use Rattle.vl_port.specs.Counting.{Faults, IsCounted}
-use Rattle.vl_port.specs.Serving.{Shards}
+use Rattle.vl_port.specs.Calls.{HasActed, PortView}
 use Rattle.vl_port.specs.Transaction.{Enlists, session_of}
 
--- what a port tells beside its catalog
-pub record PortView : Type 0 where
-  pub shards : Shards
-  pub faults : Faults
-  pub carried : ℕ
+-- a write of the transaction was done
+abbrev pub with_change : TxState → TxState
+with_change tx = record tx { changes = min (tx.changes + 1) (2 ^ 32 - 1) }
 
--- no shard shows anything else
-abbrev pub AreSame : Shards → Shards → Type 0
-AreSame old new = (shard : ℕ) → new shard ≡ old shard
+-- the session is listed, as it was or behind the others
+abbrev pub IsListed : TxState → Group → ℕ → TxState → Type 0
+IsListed tx group shard new = (added : Bool) × Enlists tx group shard added new
 
--- one act on one shard, and its answer
-pub record ActsOn (old : Shards) (who : Who) (shard : ℕ) (act : Act) (answer : Answer) (new : Shards) : Type 0 where
-  pub acted : Acted (old shard) who act answer (new shard)
-  pub others : (other : ℕ) → other ≢ shard → new other ≡ old other
+-- what the transaction becomes by an answer: want of memory leaves it as it was, and a write that was done
+-- is counted
+abbrev pub Lists : TxState → Group → ℕ → Answer → TxState → Type 0
+Lists tx group shard Memory new = new ≡ tx
+Lists tx group shard Done new = (listed : TxState) × IsListed tx group shard listed × (new ≡ with_change listed)
+Lists tx group shard Unchanged new = IsListed tx group shard new
+Lists tx group shard (Rows rows) new = IsListed tx group shard new
+Lists tx group shard (Found key row) new = IsListed tx group shard new
+Lists tx group shard (Held by key) new = IsListed tx group shard new
+Lists tx group shard (Lost why) new = IsListed tx group shard new
+Lists tx group shard Device new = IsListed tx group shard new
+Lists tx group shard (Limit what count) new = IsListed tx group shard new
 
--- the transaction's session of the group is listed, and its act was answered. It was carried once, and a
--- fault is told only where its count rose
-pub record HasAsked (old : PortView) (tx : TxState) (group : Group) (shard : ℕ) (act : Act) (answer : Answer) (tx_new : TxState) (new : PortView) : Type 0 where
-  pub room : answer ≡ Memory → ⊥
-  pub listed : (added : Bool) × Enlists tx group shard added tx_new
-  pub acts : ActsOn old.shards (session_of tx group) shard act answer new.shards
-  pub counted : IsCounted old.faults shard answer new.faults
-  pub carried : new.carried ≡ next_count old.carried
+-- the act of the transaction's session of the group was answered
+pub record HasAnswered (old : PortView) (tx : TxState) (group : Group) (shard : ℕ) (act : Act) (answer : Answer) (tx_new : TxState) (new : PortView) : Type 0 where
+  pub acts : HasActed old (session_of tx group) shard act answer new
+  pub lists : Lists tx group shard answer tx_new
 
--- memory was refused, and nothing was done
+-- there was no memory to list the session, and nothing was carried
 pub record IsUnasked (old : PortView) (tx tx_new : TxState) (new : PortView) : Type 0 where
   pub same : tx_new ≡ tx
-  pub shown : AreSame old.shards new.shards
-  pub calm : new.faults ≡ old.faults
-  pub carried : (new.carried ≡ old.carried) ⊎ (new.carried ≡ next_count old.carried)
+  pub shown : new ≡ old
 
--- the same transaction, whatever sessions it lists
+abbrev pub HasAsked : PortView → TxState → Group → ℕ → Act → Asked → TxState → PortView → Type 0
+HasAsked old tx group shard act Unlisted tx_new new = IsUnasked old tx tx_new new
+HasAsked old tx group shard act (Answered answer) tx_new new = HasAnswered old tx group shard act answer tx_new new
+
+-- a read without locks goes by the transaction's session where one is listed, and else without a group
+abbrev pub reader_in : TxState → Group → Bool → Who
+reader_in tx group true = session_of tx group
+reader_in tx group false = record { session = tx.session; tx = tx.number; group = None }
+
+-- the same transaction, whatever sessions it lists and however many writes it counts
 pub record IsSameTx (old new : TxState) : Type 0 where
   pub number : new.number ≡ old.number
   pub session : new.session ≡ old.session
   pub limits : new.limits ≡ old.limits
   pub auto : new.auto ≡ old.auto
   pub single : new.single ≡ old.single
+  pub changes : old.changes ≤ new.changes
+  pub claimed : new.claimed ≡ old.claimed
+  pub removed : new.removed ≡ old.removed

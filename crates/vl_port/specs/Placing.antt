@@ -34,3 +34,5 @@ pub record ArePlaced (catalog : Catalog) (shard : ℕ) (view : View) : Type 0 wh
   pub committed : (key : Key) (row : Values) → view.committed key ≡ Some row → IsPlacedRow catalog shard key row
   pub pending : (key : Key) (change : Change) (row : Values) → view.pending key ≡ Some change → change.row ≡ Some row → IsPlacedRow catalog shard key row
   pub changed : (key : Key) (change : Change) → view.pending key ≡ Some change → IsPlacedKey catalog shard key
+  -- so is a row that may show when the shard comes up
+  pub doubted : (key : Key) (row : Values) → view.doubt key ≡ Some (Some row) → IsPlacedRow catalog shard key row

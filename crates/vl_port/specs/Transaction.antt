@@ -33,6 +33,10 @@ Enlists old group shard false new = Contains (listed old group) shard × (new �
 abbrev pub last_tx : ℕ
 last_tx = 4611686018427387903
 
+-- a shard goes down at most this often
+abbrev pub last_incarnation : ℕ
+last_incarnation = 4611686018427387903
+
 -- the sessions that the transaction lists are those that it has in the port
 pub record IsIn (tx : TxState) (count : ℕ) (seen : Shards) : Type 0 where
   pub known : (group : Group) (shard : ℕ) → shard < count → (Contains (listed tx group) shard ↔ (is_some ((seen shard).sessions (session_of tx group)) ≡ true))

@@ -18,6 +18,8 @@ pub record View : Type 0 where
   -- the committed version of each key, and its pending one
   pub committed : Key → Option Values
   pub pending : Key → Option Change
+  -- what a record that failed may have left of a key: a row, or its removal
+  pub doubt : Key → Option (Option Values)
   -- the shard session that holds a key's lock
   pub holder : Key → Option Who
   -- the shard sessions that were opened

@@ -1,21 +1,31 @@
-// The port: how the gateway reaches a shard, and what that does.
-//
-// Statements, claims and commits go to a shard through `ShardPort`: an act, a commit or a close of one
-// shard session. What a port tells of a shard is one value, `View`: whether it is up, its incarnation,
-// the committed and the pending version of each key, the holder of each key, and the shard sessions.
-// What each call answers and does to that value is said once, by `Acted`, `Settled` and `Closed`, in the
-// rules of locks and of reads. The layers above rely on these alone and know no shard.
+//! The port: how the gateway reaches a shard, and what that does.
+//!
+//! Statements, claims and commits go to a shard through [`ShardPort`](port::ShardPort): an act, a commit or
+//! a close of one shard session, carried by a link that may lose it. What a port tells is one value,
+//! `PortView`: of each shard whether it is up, its incarnation, the committed, the pending and the doubtful
+//! version of each key, the holder of each key, and the shard sessions with their fates; of the outside how
+//! often it failed. What each call answers and does to that value is said in layers: what a session does
+//! that isn't lost, what becomes of the use of a lost one, and what the link makes of it. The layers above
+//! rely on these alone and know no shard.
 #![tactic(auto)]
 
 pub mod act;
 pub mod answer;
+pub mod asked;
 pub mod asking;
+pub mod carried;
 pub mod change;
+pub mod claimed;
 pub mod committed;
+pub mod fate;
 pub mod found_rows;
 pub mod limits;
+pub mod link;
+pub mod local_link;
+pub mod loss;
 pub mod opened;
 pub mod port;
+pub mod script_link;
 pub mod shard_list;
 pub mod tx_state;
 pub mod who;

@@ -1,4 +1,4 @@
-ghost use Rattle.std.specs.Prelude.{◌≡◌, ◌↔◌, ◌++◌, ◌∷◌, ℕ, [], List, IsTrue, OnOk, OnErr, Contains};
+ghost use Rattle.std.specs.Prelude.{◌≡◌, ◌↔◌, ◌++◌, ◌∷◌, ℕ, [], List, IsTrue, OnOk, OnErr, Contains, length};
 
 use std::alloc::{AllocError, Global};
 use std::marker::Model;
@@ -11,11 +11,13 @@ pub struct ShardList {
 }
 
 impl Model for ShardList {
-    ghost use Rattle.std.specs.Prelude.{ℕ, List};
+    ghost use Rattle.std.specs.Prelude.{ℕ, List, length, ◌<◌, ◌^◌};
 
     ghost Value = { List ℕ };
 
     ghost view = { λ s. s.shards.items };
+
+    ghost invariant = { λ s. length s.shards.items < 2 ^ 32 };
 }
 
 impl ShardList {
@@ -26,6 +28,19 @@ impl ShardList {
         ShardList {
             shards: Vec::new(alloc),
         }
+    }
+
+    /// How many there are.
+    pub fn len(&self) -> u32
+        ensures { result ≡ length self.now }
+    {
+        self.shards.len() as u32
+    }
+
+    pub fn is_empty(&self) -> bool
+        ensures { IsTrue result ↔ (self.now ≡ []) }
+    {
+        self.shards.is_empty()
     }
 
     pub fn as_slice(&self) -> &[ShardNo]
@@ -40,11 +55,15 @@ impl ShardList {
         self.shards.contains(&shard)
     }
 
-    /// Adds a shard behind the others.
+    /// Adds a shard behind the others. It is refused where there is no memory, and where the list has as
+    /// many shards as a `u32` counts.
     pub fn push(&mut self, shard: ShardNo) -> Result<(), AllocError>
         ensures ok { OnOk result (self.new ≡ self.old ++ shard ∷ []) }
         ensures err { OnErr result (self.new ≡ self.old) }
     {
+        if self.len() == u32::MAX {
+            return Err(AllocError);
+        }
         self.shards.push(shard)?;
         Ok(())
     }

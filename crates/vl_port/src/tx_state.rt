@@ -1,15 +1,19 @@
-ghost use Rattle.std.specs.Prelude.{◌≡◌, ◌↔◌, ◌++◌, ◌∷◌, ℕ, [], List, IsTrue, IfOk, OnErr, Contains};
+ghost use Rattle.std.specs.Prelude.{◌≡◌, ◌≤◌, ◌↔◌, ◌++◌, ◌∷◌, ℕ, Bool, [], List, IsTrue, IfOk, OnErr, Contains};
+ghost use Rattle.vl_port.specs.Asking.{reader_in, with_change};
 ghost use Rattle.vl_port.specs.Transaction.{Enlists, listed, session_of, with_session};
 
+use crate::claimed::Claimed;
 use crate::limits::Limits;
 use crate::shard_list::ShardList;
 use crate::who::Who;
 use std::alloc::{AllocError, Global};
 use vl_values::group::Group;
+use vl_values::items::Items;
+use vl_values::key::Key;
 use vl_values::{SessionNo, ShardNo, TxNo};
 
 /// A transaction, with the shard sessions that it has opened.
-#[derive(Debug, Drop)]
+#[derive(Drop)]
 pub struct TxState {
     pub number: TxNo,
     /// The client session.
@@ -23,6 +27,12 @@ pub struct TxState {
     pub pre: ShardList,
     pub main: ShardList,
     pub post: ShardList,
+    /// How many writes were done, held at the largest `u32`.
+    pub changes: u32,
+    /// The entries that it claims, in the order of their claims.
+    pub claimed: Items<Claimed>,
+    /// The keys of the entries that it removes, in the order of their removals.
+    pub removed: Items<Key>,
 }
 
 impl TxState {
@@ -35,7 +45,7 @@ impl TxState {
         auto: bool,
         single: bool,
     ) -> TxState
-        ensures { result ≡ record { number = number; session = session; limits = limits; auto = auto; single = single; pre = []; main = []; post = [] } }
+        ensures { result ≡ record { number = number; session = session; limits = limits; auto = auto; single = single; pre = []; main = []; post = []; changes = 0; claimed = []; removed = [] } }
     {
         TxState {
             number,
@@ -46,6 +56,9 @@ impl TxState {
             pre: ShardList::new(alloc),
             main: ShardList::new(alloc),
             post: ShardList::new(alloc),
+            changes: 0,
+            claimed: Items::new(alloc),
+            removed: Items::new(alloc),
         }
     }
 
@@ -58,6 +71,29 @@ impl TxState {
             tx: self.number,
             group: Some(group),
         }
+    }
+
+    /// Who reads without locks on a shard for the transaction: its session of the group where that is
+    /// listed, so that it sees its own changes, and else the transaction without a group.
+    pub fn reader(&self, group: Group, shard: ShardNo) -> Who
+        ensures { (there : Bool) × (IsTrue there ↔ Contains (listed self.now group) shard) × (result ≡ reader_in self.now group there) }
+    {
+        if self.listed(group).contains(shard) {
+            return self.who(group);
+        }
+        Who {
+            session: self.session,
+            tx: self.number,
+            group: None,
+        }
+    }
+
+    /// Counts a write that was done.
+    pub fn count_change(&mut self)
+        ensures counted { self.new ≡ with_change self.old }
+        ensures more { self.old.changes ≤ self.new.changes }
+    {
+        self.changes = self.changes.saturating_add(1);
     }
 
     /// The shards of the group's sessions, in the order of first use.
@@ -97,7 +133,8 @@ impl TxState {
 
     /// Takes the session of a group off the list that was added last. It takes no memory.
     pub fn strike(&mut self, group: Group)
-        ensures { (front : List ℕ) (shard : ℕ) → listed self.old group ≡ front ++ shard ∷ [] → self.new ≡ with_session self.old group front }
+        ensures same { self.new.changes ≡ self.old.changes }
+        ensures struck { (front : List ℕ) (shard : ℕ) → listed self.old group ≡ front ++ shard ∷ [] → self.new ≡ with_session self.old group front }
     {
         match group {
             Group::Pre => self.pre.pop(),
