@@ -9,7 +9,8 @@ use Rattle.vl_port.specs.declared.act.Act.TheVariants.{Remove}
 use Rattle.vl_port.specs.declared.who.Who.{Who}
 use Rattle.vl_port.specs.View.{View, Values, has_group}
 use Rattle.vl_port.specs.Holding.{needs, IsFree, IsHeld}
-use Rattle.vl_port.specs.Acting.{opened, taken}
+use Rattle.vl_port.specs.Acting.{taken}
+use Rattle.vl_port.specs.Life.{opened}
 use Rattle.vl_shard.specs.Seats.{IsPlaceFor}
 use Rattle.vl_shard.specs.Parts.{Parts, view_of, IsWhole}
 use Rattle.vl_shard.specs.Obtaining.{Obtains, HasObtained, IsRefused}

@@ -9,6 +9,7 @@ use Rattle.vl_values.specs.Keyed.{is_among_keys, is_key, InKeyOrder}
 use Rattle.vl_values.proofs.KeyOrder.{is_key-true, is_key-same}
 use Rattle.vl_port.specs.declared.act.Act.TheVariants.{Insert, Put, Remove, Find}
 use Rattle.vl_port.specs.declared.who.Who.{Who}
+use Rattle.vl_port.specs.Life.{lives_in}
 use Rattle.vl_port.specs.View.{View, Values, changed_to}
 use Rattle.vl_port.specs.Reading.{is_match, IsRead}
 use Rattle.vl_port.specs.Holding.{needs, IsHeld}
@@ -18,7 +19,7 @@ use Rattle.vl_rows.specs.Versions as versions
 use Rattle.vl_rows.specs.Matching.{matches_at, row_of, has_match, IsFound}
 use Rattle.vl_locks.specs.Locks.{holder_of}
 use Rattle.vl_shard.specs.declared.seat.Seat.{Seat}
-use Rattle.vl_shard.specs.Seats.{seat_at, name_of, who_at, IsPlaceFor, IsAbsent}
+use Rattle.vl_shard.specs.Seats.{seat_at, name_of, who_at, session_of, IsPlaceFor, IsAbsent}
 use Rattle.vl_shard.specs.Parts.{Parts, change_by, change_told, view_of, IsWhole}
 use Rattle.vl_shard.specs.Changing.{key_taken, key_changed, IsWritten}
 use Rattle.vl_shard.proofs.Telling.{view_ext, standing_told, IsReader, pending_live, seat_of}
@@ -68,6 +69,10 @@ module _ (old new : Parts) (key : Key) (row : Option Values) (conn : ℕ) (w : I
   whole_written whole held = record {
     held = λ other c h. ap (λ (l : List (Key × ℕ)). holder_of l other) w.holds ∙ written_held_by whole held other c h (is_key key other) refl;
     live = λ other n h. ap (λ (l : List (Option Seat)). is_some (seat_at l n)) w.seats ∙ whole.live other n (ap (λ (l : List (Key × ℕ)). holder_of l other) (sym w.holds) ∙ h);
+    alive = λ other n who h named.
+        ap (λ (i : ℕ). lives_in i (session_of new.seats who)) w.incarnation ∙ ap (λ (l : List (Option Seat)). lives_in old.incarnation (session_of l who)) w.seats
+        ∙ whole.alive other n who (ap (λ (l : List (Key × ℕ)). holder_of l other) (sym w.holds) ∙ h) (ap (λ (l : List (Option Seat)). who_at l n) (sym w.seats) ∙ named);
+    young = λ who x h. rw (w.incarnation) (whole.young who x (ap (λ (l : List (Option Seat)). session_of l who) (sym w.seats) ∙ h));
   }
 
   told_by : (who : Who) → who_at old.seats conn ≡ Some who → (other : Key) (b : Bool) → is_key key other ≡ b → change_told old.seats (pending_at new.rows other) ≡ cond b (Some (record { who = who; row = row })) ((view_of old).pending other)
@@ -82,6 +87,7 @@ module _ (old new : Parts) (key : Key) (row : Option Values) (conn : ℕ) (w : I
       view_ext (view_of new) _ refl w.incarnation
       (λ k. ap (λ (l : List (Key × Values)). committed_at (record old.rows { committed = l }) k) w.committed)
       (λ k. ap (λ (l : List (Option Seat)). change_told l (pending_at new.rows k)) w.seats ∙ told_by who named k (is_key key k) refl)
+      (λ k. refl)
       (λ k. ap (λ (l : List (Option Seat)). (view_of (record new { seats = l })).holder k) w.seats ∙ ap (λ (l : List (Key × ℕ)). (view_of (record old { holds = l })).holder k) w.holds)
       (λ x. ap (λ (l : List (Option Seat)). (view_of (record new { seats = l })).sessions x) w.seats)
 

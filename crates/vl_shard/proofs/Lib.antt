@@ -5,4 +5,6 @@ pub mod Doing
 pub mod Answering
 pub mod Leaving
 pub mod Banking
+pub mod Using
 pub mod Fitted
+pub mod Dropping

@@ -14,13 +14,16 @@ use Rattle.vl_port.specs.declared.act.Act.{Act}
 use Rattle.vl_port.specs.declared.who.Who.{Who}
 use Rattle.vl_port.specs.View.{is_who, has_group}
 use Rattle.vl_port.specs.Holding.{needs, is_held_by_other, IsFree, IsHeld}
-use Rattle.vl_port.specs.Acting.{opened, taken}
+use Rattle.vl_port.specs.Acting.{taken}
+use Rattle.vl_port.specs.Life.{lives_in, loss_in, opened, opened_at}
+use Rattle.vl_port.proofs.Lives.{open_lives, opened_lives, opened_young}
+use Rattle.vl_port.proofs.Naming.{is_who-same}
 use Rattle.vl_rows.specs.declared.change.Change.{Change as RowChange}
 use Rattle.vl_rows.specs.Versions.{Versions, committed_at, pending_at}
 use Rattle.vl_locks.specs.Locks.{holder_of, other_than}
 use Rattle.vl_locks.specs.Take.{IsFreeFor, IsFirstHeld, with_all}
 use Rattle.vl_shard.specs.declared.seat.Seat.{Seat}
-use Rattle.vl_shard.specs.Seats.{seat_at, name_of, session_of, IsPlaceFor, HasSat}
+use Rattle.vl_shard.specs.Seats.{seat_at, name_of, who_at, session_of, IsPlaceFor, HasSat}
 use Rattle.vl_shard.specs.Parts.{Parts, holder_told, change_told, view_of, IsWhole}
 use Rattle.vl_shard.specs.Obtaining.{IsFirstHeldBy}
 use Rattle.vl_shard.proofs.Telling.{seat_of, view_ext, same_test, holder_stays, change_stays, seat_stays, named_some, with_group, pending_live}
@@ -69,6 +72,13 @@ own_or_free : (conn other : ℕ) → other_than conn (Some other) ≡ None → o
 own_or_free conn other h =
     ⊎_elim (λ same. eqb-true other conn same) (λ apart. absurd (none_some other (sym h ∙ ap (λ (b : Bool). cond b None (Some other)) apart))) (cases_Bool (other == conn))
 
+-- ---- the sessions of seats that one has sat down on
+
+-- the name of a seat that was taken
+name_back : (seats new : List (Option Seat)) (other : ℕ) (w : Who) → ((n : ℕ) (seat : Seat) → seat_at seats n ≡ Some seat → seat_at new n ≡ Some seat) → is_some (seat_at seats other) ≡ true
+    → who_at new other ≡ Some w → who_at seats other ≡ Some w
+name_back seats new other w others live named = let s = seat_of (seat_at seats other) live in ap name_of s.1 ∙ sym (ap name_of (others other s.0 s.1)) ∙ named
+
 -- ---- the parts stay whole
 
 pub whole_sat : (rows : Versions) (holds : List (Key × ℕ)) (seats new : List (Option Seat)) (who : Who) (conn incarnation : ℕ)
@@ -76,11 +86,16 @@ pub whole_sat : (rows : Versions) (holds : List (Key × ℕ)) (seats new : List 
 whole_sat rows holds seats new who conn incarnation whole sat = record {
   held = whole.held;
   live = λ key other h. seat_stays seats new other sat.others (whole.live key other h);
+  alive = λ key other w h named.
+      ap (lives_in incarnation) (sat.sessions w)
+      ∙ open_lives (is_who who w) incarnation (session_of seats w) (whole.alive key other w h (name_back seats new other w sat.others (whole.live key other h) named));
+  young = λ w x h. opened_young (is_who who w) incarnation (session_of seats w) x (whole.young w) (sym (sat.sessions w) ∙ h);
 }
 
 module _ (rows : Versions) (holds : List (Key × ℕ)) (seats : List (Option Seat)) (who : Who) (conn incarnation : ℕ) (keys : List Key) (newly : List (Key × ℕ)) (new : List (Option Seat))
     (whole : IsWhole (record { rows = rows; holds = holds; seats = seats; incarnation = incarnation })) (free : All (IsFreeFor holds conn) keys)
-    (is : (key : Key) → holder_of newly key ≡ with_all (holder_of holds) keys conn key) (sat : HasSat seats who incarnation conn new) where
+    (is : (key : Key) → holder_of newly key ≡ with_all (holder_of holds) keys conn key) (sat : HasSat seats who incarnation conn new)
+    (unlost : loss_in incarnation (session_of seats who) ≡ None) where
   held_by : (key : Key) (c : RowChange) → pending_at rows key ≡ Some c → (b : Bool) → is_among_keys keys key ≡ b → holder_of newly key ≡ Some c.conn
   held_by key c h true among =
       is key ∙ ap (λ (b : Bool). cond b (Some conn) (holder_of holds key)) among
@@ -94,10 +109,26 @@ module _ (rows : Versions) (holds : List (Key × ℕ)) (seats : List (Option Sea
   live_by key other h false among =
       seat_stays seats new other sat.others (whole.live key other (sym (is key ∙ ap (λ (b : Bool). cond b (Some conn) (holder_of holds key)) among) ∙ h))
 
+  -- the session itself is open and isn't lost
+  own_lives : lives_in incarnation (session_of new who) ≡ true
+  own_lives =
+      ap (lives_in incarnation) (sat.sessions who ∙ ap (λ (b : Bool). cond b (opened_at incarnation (session_of seats who)) (session_of seats who)) (is_who-same who))
+      ∙ opened_lives incarnation (session_of seats who) unlost
+
+  alive_by : (key : Key) (other : ℕ) (w : Who) → holder_of newly key ≡ Some other → who_at new other ≡ Some w → (b : Bool) → is_among_keys keys key ≡ b → lives_in incarnation (session_of new w) ≡ true
+  alive_by key other w h named true among =
+      let mine : conn ≡ other = some_one conn other (sym (is key ∙ ap (λ (b : Bool). cond b (Some conn) (holder_of holds key)) among) ∙ h) in
+      let same : who ≡ w = some_one who w (sym sat.own ∙ ap (who_at new) mine ∙ named) in
+      subst (λ (x : Who). lives_in incarnation (session_of new x) ≡ true) same own_lives
+  alive_by key other w h named false among =
+      (whole_sat rows holds seats new who conn incarnation whole sat).alive key other w (sym (is key ∙ ap (λ (b : Bool). cond b (Some conn) (holder_of holds key)) among) ∙ h) named
+
   pub whole_taken : IsWhole (record { rows = rows; holds = newly; seats = new; incarnation = incarnation })
   whole_taken = record {
     held = λ key c h. held_by key c h (is_among_keys keys key) refl;
     live = λ key other h. live_by key other h (is_among_keys keys key) refl;
+    alive = λ key other w h named. alive_by key other w h named (is_among_keys keys key) refl;
+    young = (whole_sat rows holds seats new who conn incarnation whole sat).young;
   }
 
 -- ---- a refusal
@@ -134,7 +165,7 @@ module _ (old new : Parts) (who : Who) (conn : ℕ) (whole : IsWhole old) (group
 
   pub view_refused : new.holds ≡ old.holds → view_of new ≡ opened who (view_of old)
   view_refused holds =
-      view_ext (view_of new) (opened who (view_of old)) refl incarnation (λ key. ap (λ (v : Versions). committed_at v key) rows) pending_same
+      view_ext (view_of new) (opened who (view_of old)) refl incarnation (λ key. ap (λ (v : Versions). committed_at v key) rows) pending_same (λ key. refl)
       (λ key. ap (λ (l : List (Key × ℕ)). holder_told new.seats (holder_of l key)) holds ∙ holder_same key)
       sessions_opened
 
@@ -145,7 +176,7 @@ module _ (old new : Parts) (who : Who) (conn : ℕ) (whole : IsWhole old) (group
 
     pub view_taken : view_of new ≡ taken who act (view_of old)
     view_taken =
-        view_ext (view_of new) (taken who act (view_of old)) refl incarnation (λ key. ap (λ (v : Versions). committed_at v key) rows) pending_same
+        view_ext (view_of new) (taken who act (view_of old)) refl incarnation (λ key. ap (λ (v : Versions). committed_at v key) rows) pending_same (λ key. refl)
         (λ key. holder_taken key (needs (view_of old) act key) (needed key))
         sessions_opened
 

@@ -1,17 +1,21 @@
 -- Seats once one was found, added, taken or left.
-use Rattle.std.proofs.Common.{◌≡◌, ◌<◌, ℕ, zero, suc, Bool, true, false, cond, set, List, [], ◌∷◌, ◌++◌, length, map, get_or, Option, Some, None, ◌⊎◌, inl, inr, refl, sym, ap, subst, ◌∙◌, arith, true≢false, take, drop, not, ◌+◌}
+use Rattle.std.proofs.Common.{◌≡◌, ◌<◌, ℕ, zero, suc, Bool, true, false, cond, set, List, [], ◌∷◌, ◌++◌, length, map, get_or, Option, Some, None, ◌⊎◌, inl, inr, refl, sym, ap, subst, ◌∙◌, arith, true≢false, take, drop, not, ◌+◌, ◌==◌, ◌&&◌}
 use Rattle.std.specs.Option.{is_some}
-use Rattle.std.proofs.lemmas.Bool.{cases_Bool}
+use Rattle.std.proofs.lemmas.Bool.{and_parts, cases_Bool, eq-eqb}
 use Rattle.std.proofs.lemmas.List.{length-map, take_at}
 use Rattle.std.proofs.lemmas.List.Edits.{map_over_more}
 use Rattle.std.proofs.Math.ListN.{get_or-map}
+use Rattle.vl_values.specs.declared.group.Group.{Group}
+use Rattle.vl_values.specs.declared.group.Group.TheVariants.{Pre, Main, Post}
+use Rattle.vl_port.specs.declared.fate.Fate.{Fate}
+use Rattle.vl_port.specs.declared.fate.Fate.TheVariants as fates
 use Rattle.vl_port.specs.declared.opened.Opened.{Opened}
 use Rattle.vl_port.specs.declared.who.Who.{Who}
-use Rattle.vl_port.specs.View.{is_who}
-use Rattle.vl_port.specs.Acting.{opened_at}
+use Rattle.vl_port.specs.View.{is_group, is_who}
+use Rattle.vl_port.specs.Life.{lives_in, marked, opened_at}
 use Rattle.vl_port.proofs.Naming.{is_who-true, is_who-same}
 use Rattle.vl_shard.specs.declared.seat.Seat.{Seat}
-use Rattle.vl_shard.specs.Seats.{is_of, seat_at, name_of, who_at, session_of, IsNumbered, IsOnce, IsPlaceFor, IsAbsent, SameSeats, HasSat, left_by}
+use Rattle.vl_shard.specs.Seats.{is_of, seat_at, name_of, who_at, session_of, IsNumbered, IsOnce, IsPlaceFor, IsAbsent, SameSeats, HasSat, left_by, lost_by, is_live_of}
 
 none_some : {X : Type 0} (x : X) → None ≡ Some x → ⊥
 none_some x h = cc
@@ -107,11 +111,11 @@ session_set (Some s ∷ seats) (suc conn) new who within free absent =
     ∙ exchanged (is_who s.who who) (is_who new.who who) (Some s.opened) (Some new.opened) (session_of seats who)
     (λ mine yours. true≢false (sym (ap (λ (w : Who). is_who s.who w) (is_who-true new.who who yours ∙ sym (is_who-true s.who who mine)) ∙ is_who-same s.who) ∙ apart.0))
 
-opens_new : (b : Bool) (incarnation : ℕ) (o : Option Opened) → (b ≡ true → o ≡ None) → cond b (Some (record { incarnation = incarnation; killed = false })) o ≡ cond b (opened_at incarnation o) o
+opens_new : (b : Bool) (incarnation : ℕ) (o : Option Opened) → (b ≡ true → o ≡ None) → cond b (Some (record { incarnation = incarnation; fate = fates.Live })) o ≡ cond b (opened_at incarnation o) o
 opens_new true incarnation o none = ap (opened_at incarnation) (sym (none refl))
 opens_new false incarnation o none = refl
 
-opens_again : (b : Bool) (incarnation : ℕ) (o : Option Opened) → (b ≡ true → is_some o ≡ true) → o ≡ cond b (opened_at incarnation o) o
+pub opens_again : (b : Bool) (incarnation : ℕ) (o : Option Opened) → (b ≡ true → is_some o ≡ true) → o ≡ cond b (opened_at incarnation o) o
 opens_again true incarnation None some = absurd (true≢false (sym (some refl)))
 opens_again true incarnation (Some x) some = refl
 opens_again false incarnation o some = refl
@@ -140,9 +144,9 @@ absent_by : (seats : List (Option Seat)) (who : Who) (conn : ℕ) → IsPlaceFor
 absent_by seats who conn place free other seat is named = none_some seat (sym free ∙ ap (seat_at seats) (sym (place.only other seat is named)) ∙ is)
 
 pub sat_new : (seats new : List (Option Seat)) (who : Who) (conn incarnation : ℕ) → IsPlaceFor seats who conn → seat_at seats conn ≡ None
-    → new ≡ set seats conn (Some (record { who = who; opened = record { incarnation = incarnation; killed = false } })) → HasSat seats who incarnation conn new
+    → new ≡ set seats conn (Some (record { who = who; opened = record { incarnation = incarnation; fate = fates.Live } })) → HasSat seats who incarnation conn new
 sat_new seats new who conn incarnation place free is =
-    let seat : Seat = record { who = who; opened = record { incarnation = incarnation; killed = false } } in
+    let seat : Seat = record { who = who; opened = record { incarnation = incarnation; fate = fates.Live } } in
     let absent = none_seated seats who (absent_by seats who conn place free) in
     subst (HasSat seats who incarnation conn) (sym is)
     (record {
@@ -244,6 +248,139 @@ session_left who other [] = either (is_who who other) None
 session_left who other (None ∷ seats) = session_left who other seats
 session_left who other (Some s ∷ seats) = left_first who other s (map (left_by who) seats) (session_of seats other) (session_left who other seats)
 
+-- ---- a session is lost
+
+pub lost_at : (fate : Fate) (who : Who) (seats : List (Option Seat)) (conn : ℕ) → seat_at (map (lost_by fate who) seats) conn ≡ lost_by fate who (seat_at seats conn)
+lost_at fate who seats conn = get_or-map (lost_by fate who) seats conn None
+
+lost_some : (fate : Fate) (who : Who) (o : Option Seat) (seat : Seat) → lost_by fate who o ≡ Some seat → (s : Seat) × (o ≡ Some s) × (s.who ≡ seat.who)
+lost_some fate who None seat h = absurd (none_some seat h)
+lost_some fate who (Some s) seat h = (s, refl, by_who (is_who s.who who) h)
+  where
+    by_who : (b : Bool) → cond b (Some (record s { opened = record s.opened { fate = fate } })) (Some s) ≡ Some seat → s.who ≡ seat.who
+    by_who true h = named _ h
+      where
+        named : (x : Seat) → Some x ≡ Some seat → x.who ≡ seat.who
+        named x h = cc
+    by_who false h = cc
+
+pub once_lost : (fate : Fate) (who : Who) (seats : List (Option Seat)) → IsOnce seats → IsOnce (map (lost_by fate who) seats)
+once_lost fate who seats once i j a b at_i at_j same =
+    let x = lost_some fate who (seat_at seats i) a (sym (lost_at fate who seats i) ∙ at_i) in
+    let y = lost_some fate who (seat_at seats j) b (sym (lost_at fate who seats j) ∙ at_j) in
+    once i j x.0 y.0 x.1 y.1 (x.2 ∙ same ∙ sym y.2)
+
+pub numbered_lost : (fate : Fate) (who : Who) (seats : List (Option Seat)) → IsNumbered seats → IsNumbered (map (lost_by fate who) seats)
+numbered_lost fate who seats numbered = rw (length-map seats (lost_by fate who)) numbered
+
+lost_first : (fate : Fate) (who other : Who) (s : Seat) (lost seats : Option Opened) → is_who s.who who ≡ true → lost ≡ cond (is_who who other) (marked fate seats) seats
+    → cond (is_who s.who other) (Some (record s.opened { fate = fate })) lost ≡ cond (is_who who other) (marked fate (cond (is_who s.who other) (Some s.opened) seats)) (cond (is_who s.who other) (Some s.opened) seats)
+lost_first fate who other s lost seats own is = both (is_who who other) (is_who s.who other) (ap (λ (w : Who). is_who w other) (is_who-true s.who who own)) is
+  where
+    both : (c b : Bool) → b ≡ c → lost ≡ cond c (marked fate seats) seats
+        → cond b (Some (record s.opened { fate = fate })) lost ≡ cond c (marked fate (cond b (Some s.opened) seats)) (cond b (Some s.opened) seats)
+    both true true same is = refl
+    both true false same is = absurd (true≢false (sym same))
+    both false true same is = absurd (true≢false same)
+    both false false same is = is
+
+lost_stays : (fate : Fate) (who other : Who) (s : Seat) (lost seats : Option Opened) → is_who s.who who ≡ false → lost ≡ cond (is_who who other) (marked fate seats) seats
+    → cond (is_who s.who other) (Some s.opened) lost ≡ cond (is_who who other) (marked fate (cond (is_who s.who other) (Some s.opened) seats)) (cond (is_who s.who other) (Some s.opened) seats)
+lost_stays fate who other s lost seats apart is =
+    both (is_who who other) (is_who s.who other) (λ yours mine. true≢false (sym (ap (λ (w : Who). is_who s.who w) (is_who-true who other yours ∙ sym (is_who-true s.who other mine)) ∙ is_who-same s.who) ∙ apart)) is
+  where
+    both : (c b : Bool) → (c ≡ true → b ≡ true → ⊥) → lost ≡ cond c (marked fate seats) seats
+        → cond b (Some s.opened) lost ≡ cond c (marked fate (cond b (Some s.opened) seats)) (cond b (Some s.opened) seats)
+    both true true apart is = absurd (apart refl refl)
+    both true false apart is = is
+    both false b apart is = ap (cond b (Some s.opened)) is
+
+lost_seat : (fate : Fate) (who other : Who) (s : Seat) (lost : List (Option Seat)) (seats : Option Opened) → session_of lost other ≡ cond (is_who who other) (marked fate seats) seats
+    → session_of (lost_by fate who (Some s) ∷ lost) other ≡ cond (is_who who other) (marked fate (cond (is_who s.who other) (Some s.opened) seats)) (cond (is_who s.who other) (Some s.opened) seats)
+lost_seat fate who other s lost seats is =
+    elim (cases_Bool (is_who s.who who)) [
+      | inl own ↦ ap (λ (b : Bool). session_of (cond b (Some (record s { opened = record s.opened { fate = fate } })) (Some s) ∷ lost) other) own ∙ lost_first fate who other s (session_of lost other) seats own is
+      | inr apart ↦ ap (λ (b : Bool). session_of (cond b (Some (record s { opened = record s.opened { fate = fate } })) (Some s) ∷ lost) other) apart ∙ lost_stays fate who other s (session_of lost other) seats apart is
+    ]
+
+pub session_lost : (fate : Fate) (who other : Who) (seats : List (Option Seat)) → session_of (map (lost_by fate who) seats) other ≡ cond (is_who who other) (marked fate (session_of seats other)) (session_of seats other)
+session_lost fate who other [] = either (is_who who other) None
+session_lost fate who other (None ∷ seats) = session_lost fate who other seats
+session_lost fate who other (Some s ∷ seats) = lost_seat fate who other s (map (lost_by fate who) seats) (session_of seats other) (session_lost fate who other seats)
+
+-- ---- what is kept of the session of a seat
+
+once_rest : (s : Option Seat) (seats : List (Option Seat)) → IsOnce (s ∷ seats) → IsOnce seats
+once_rest s seats once i j a b at_i at_j same = less (once (suc i) (suc j) a b at_i at_j same)
+  where
+    less : suc i ≡ suc j → i ≡ j
+    less h = cc
+
+pub session_at : (seats : List (Option Seat)) (conn : ℕ) (seat : Seat) → IsOnce seats → seat_at seats conn ≡ Some seat → session_of seats seat.who ≡ Some seat.opened
+session_at [] conn seat once is = absurd (none_some seat is)
+session_at (None ∷ seats) zero seat once is = absurd (none_some seat is)
+session_at (None ∷ seats) (suc conn) seat once is = session_at seats conn seat (once_rest None seats once) is
+session_at (Some s ∷ seats) zero seat once is =
+    let same : s ≡ seat = cc in
+    ap (λ (x : Seat). cond (is_who x.who seat.who) (Some x.opened) (session_of seats seat.who)) same ∙ ap (λ (b : Bool). cond b (Some seat.opened) (session_of seats seat.who)) (is_who-same seat.who)
+session_at (Some s ∷ seats) (suc conn) seat once is =
+    elim (cases_Bool (is_who s.who seat.who)) [
+      | inl own ↦ absurd (apart (once 0 (suc conn) s seat refl is (is_who-true s.who seat.who own)))
+      | inr other ↦ ap (λ (b : Bool). cond b (Some s.opened) (session_of seats seat.who)) other ∙ session_at seats conn seat (once_rest (Some s) seats once) is
+    ]
+  where
+    apart : 0 ≡ suc conn → ⊥
+    apart h = cc
+
+-- a session that was opened has a seat
+pub seat_for : (seats : List (Option Seat)) (who : Who) (x : Opened) → session_of seats who ≡ Some x → (conn : ℕ) × (seat : Seat) × (seat_at seats conn ≡ Some seat) × (seat.who ≡ who) × (seat.opened ≡ x)
+seat_for [] who x h = absurd (none_some x h)
+seat_for (None ∷ seats) who x h = let t = seat_for seats who x h in (suc t.0, t.1, t.2, t.3, t.4)
+seat_for (Some s ∷ seats) who x h =
+    elim (cases_Bool (is_who s.who who)) [
+      | inl own ↦ (0, s, refl, is_who-true s.who who own, one (sym (ap (λ (b : Bool). cond b (Some s.opened) (session_of seats who)) own) ∙ h))
+      | inr other ↦ let t = seat_for seats who x (sym (ap (λ (b : Bool). cond b (Some s.opened) (session_of seats who)) other) ∙ h) in (suc t.0, t.1, t.2, t.3, t.4)
+    ]
+  where
+    one : Some s.opened ≡ Some x → s.opened ≡ x
+    one h = cc
+
+pub session_there : (seats : List (Option Seat)) (who : Who) (conn : ℕ) (seat : Seat) → IsOnce seats → seat_at seats conn ≡ Some seat → is_of who (seat_at seats conn) ≡ true → session_of seats who ≡ Some seat.opened
+session_there seats who conn seat once at own =
+    subst (λ (w : Who). session_of seats w ≡ Some seat.opened) (is_who-true seat.who who (sym (ap (is_of who) at) ∙ own)) (session_at seats conn seat once at)
+
+-- ---- live sessions of a client session and group
+
+pub live_at : (seats : List (Option Seat)) (conn : ℕ) (seat : Seat) (session : ℕ) (group : Group) (incarnation : ℕ) → IsOnce seats → seat_at seats conn ≡ Some seat
+    → is_live_of session group incarnation (seat_at seats conn) ≡ true → lives_in incarnation (session_of seats seat.who) ≡ true
+live_at seats conn seat session group incarnation once at live =
+    let p = and_parts (seat.who.session == session) (is_group seat.who.group (Some group) && lives_in incarnation (Some seat.opened)) (sym (ap (is_live_of session group incarnation) at) ∙ live) in
+    ap (lives_in incarnation) (session_at seats conn seat once at) ∙ (and_parts (is_group seat.who.group (Some group)) (lives_in incarnation (Some seat.opened)) p.1).1
+
+own_group : (group : Group) → is_group (Some group) (Some group) ≡ true
+own_group Pre = refl
+own_group Main = refl
+own_group Post = refl
+
+rest_false : (a b : Bool) → a ≡ true → (a && b) ≡ false → b ≡ false
+rest_false true b h k = k
+rest_false false b h k = absurd (true≢false (sym h))
+
+pub none_live : (seats : List (Option Seat)) (session : ℕ) (group : Group) (incarnation : ℕ) → ((place : ℕ) → is_live_of session group incarnation (seat_at seats place) ≡ false)
+    → (who : Who) → who.session ≡ session → who.group ≡ Some group → lives_in incarnation (session_of seats who) ≡ false
+none_live seats session group incarnation none who of_session of_group = by_session (session_of seats who) refl
+  where
+    by_session : (o : Option Opened) → session_of seats who ≡ o → lives_in incarnation o ≡ false
+    by_session None is = refl
+    by_session (Some x) is =
+        let t = seat_for seats who x is in
+        let h = sym (ap (is_live_of session group incarnation) t.2) ∙ none t.0 in
+        let of_one = eq-eqb t.1.who.session session (ap (λ (w : Who). w.session) t.3 ∙ of_session) in
+        let of_other = ap (λ (g : Option Group). is_group g (Some group)) (ap (λ (w : Who). w.group) t.3 ∙ of_group) ∙ own_group group in
+        ap (λ (y : Opened). lives_in incarnation (Some y)) (sym t.4)
+        ∙ rest_false (is_group t.1.who.group (Some group)) (lives_in incarnation (Some t.1.opened)) of_other
+        (rest_false (t.1.who.session == session) (is_group t.1.who.group (Some group) && lives_in incarnation (Some t.1.opened)) of_one h)
+
 -- seats that were rewritten through a slice of them all
 pub rewritten : (f : Option Seat → Option Seat) (seats slice new : List (Option Seat)) (len : ℕ) → slice ≡ seats → length slice ≡ len → new ≡ map f slice → take len (new ++ drop (length new) seats) ≡ map f seats
 rewritten f seats slice new len same all is =
@@ -261,7 +398,7 @@ written_over f seats now i new within all is made =
     ap (set now i) made ∙ map_over_more f seats now i (get_or now i None) within is (get_or_any now i None (get_or now i None) (omega arith))
 
 -- what was read of a seat
-seat_read : (seats : List (Option Seat)) (i : ℕ) (d : Option Seat) → i < length seats → d ≡ get_or seats i d → seat_at seats i ≡ d
+pub seat_read : (seats : List (Option Seat)) (i : ℕ) (d : Option Seat) → i < length seats → d ≡ get_or seats i d → seat_at seats i ≡ d
 seat_read [] i d within is = absurd (omega arith)
 seat_read (s ∷ seats) zero d within is = sym is
 seat_read (s ∷ seats) (suc i) d within is = seat_read seats i d (omega arith) is

@@ -6,6 +6,7 @@ use Rattle.vl_values.specs.declared.key.Key.{Key}
 use Rattle.vl_port.specs.declared.change.Change.{Change}
 use Rattle.vl_port.specs.declared.opened.Opened.{Opened}
 use Rattle.vl_port.specs.declared.who.Who.{Who}
+use Rattle.vl_port.specs.Life.{lives_in}
 use Rattle.vl_port.specs.View.{View, Values, is_who, version_for, standing}
 use Rattle.vl_port.specs.Keeping.{IsKept}
 use Rattle.vl_port.proofs.Naming.{is_who-true, is_who-same}
@@ -14,10 +15,9 @@ use Rattle.vl_rows.specs.Versions.{Versions, committed_at, pending_at, standing_
 use Rattle.vl_rows.specs.Versions as versions
 use Rattle.vl_locks.specs.Locks.{holder_of}
 use Rattle.vl_shard.specs.declared.seat.Seat.{Seat}
-use Rattle.vl_shard.specs.Seats.{seat_at, name_of, who_at, IsPlaceFor, IsAbsent}
+use Rattle.vl_shard.specs.Seats.{seat_at, name_of, who_at, session_of, IsPlaceFor, IsAbsent}
 use Rattle.vl_shard.specs.Parts.{Parts, holder_told, change_by, change_told, view_of, IsWhole}
 use Rattle.vl_shard.specs.Changing.{IsUnseen}
-use Rattle.vl_shard.proofs.Seating.{seated_open}
 
 none_some : {X : Type 0} (x : X) → None ≡ Some x → ⊥
 none_some x h = cc
@@ -31,8 +31,8 @@ seat_of None h = absurd (true≢false (sym h))
 seat_of (Some seat) h = (seat, refl)
 
 pub view_ext : (v w : View) → v.up ≡ w.up → v.incarnation ≡ w.incarnation → ((key : Key) → v.committed key ≡ w.committed key) → ((key : Key) → v.pending key ≡ w.pending key)
-    → ((key : Key) → v.holder key ≡ w.holder key) → ((who : Who) → v.sessions who ≡ w.sessions who) → v ≡ w
-view_ext v w u n c p h s = λ i. record { up = u i; incarnation = n i; committed = λ key. c key i; pending = λ key. p key i; holder = λ key. h key i; sessions = λ who. s who i }
+    → ((key : Key) → v.doubt key ≡ w.doubt key) → ((key : Key) → v.holder key ≡ w.holder key) → ((who : Who) → v.sessions who ≡ w.sessions who) → v ≡ w
+view_ext v w u n c p d h s = λ i. record { up = u i; incarnation = n i; committed = λ key. c key i; pending = λ key. p key i; doubt = λ key. d key i; holder = λ key. h key i; sessions = λ who. s who i }
 
 -- ---- what is kept
 
@@ -55,7 +55,10 @@ kept parts whole = record {
       ap (holder_told parts.seats) (whole.held key c.0 c.1) ∙ c.2;
   live = λ key who h.
       let c = holder_cases parts.seats (holder_of parts.holds key) who h in
-      seated_open parts.seats c.0 who c.2;
+      whole.alive key c.0 who c.1 c.2;
+  young = whole.young;
+  awake = λ who h. refl;
+  sure = λ h key. refl;
 }
 
 -- ---- only room was made
@@ -65,6 +68,7 @@ unseen old new u =
     view_ext (view_of new) (view_of old) refl u.incarnation
     (λ key. ap (λ (l : List (Key × Values)). committed_at (record old.rows { committed = l }) key) u.rows.committed)
     (λ key. pending_same key (pending_at new.rows key) ∙ ap (λ (l : List (Key × RowChange)). change_told old.seats (pending_at (record old.rows { pending = l }) key)) u.rows.pending)
+    (λ key. refl)
     (λ key. holder_same (holder_of new.holds key) ∙ ap (λ (l : List (Key × ℕ)). holder_told old.seats (holder_of l key)) u.holds)
     u.seats.sessions
   where
@@ -82,6 +86,10 @@ whole_unseen old new u whole = record {
       ap (λ (l : List (Key × ℕ)). holder_of l key) u.holds ∙ whole.held key c (ap (λ (l : List (Key × RowChange)). pending_at (record old.rows { pending = l }) key) (sym u.rows.pending) ∙ h);
   live = λ key conn h.
       ap is_some (u.seats.seats conn) ∙ whole.live key conn (ap (λ (l : List (Key × ℕ)). holder_of l key) (sym u.holds) ∙ h);
+  alive = λ key conn who h named.
+      ap (λ (n : ℕ). lives_in n (session_of new.seats who)) u.incarnation ∙ ap (lives_in old.incarnation) (u.seats.sessions who)
+      ∙ whole.alive key conn who (ap (λ (l : List (Key × ℕ)). holder_of l key) (sym u.holds) ∙ h) (sym (ap name_of (u.seats.seats conn)) ∙ named);
+  young = λ who session h. rw (u.incarnation) (whole.young who session (sym (u.seats.sessions who) ∙ h));
 }
 
 pub place_unseen : (old new : Parts) (who : Who) (conn : ℕ) → IsUnseen old new → length old.seats ≤ length new.seats → IsPlaceFor old.seats who conn → IsPlaceFor new.seats who conn

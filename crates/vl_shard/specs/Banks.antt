@@ -1,19 +1,25 @@
 -- What a bank has, and what a port tells of each of its shards.
-use Rattle.std.specs.Prelude.{◌≡◌, ℕ, ◌<◌, None, List, [], length, slice_index_or}
+use Rattle.std.specs.Prelude.{◌≡◌, ℕ, ◌<◌, None, List, [], length, replicate, slice_index_or, Option}
 use Rattle.vl_values.specs.declared.key.Key.{Key}
 use Rattle.vl_catalog.specs.declared.catalog.Catalog.{Catalog}
+use Rattle.vl_port.specs.declared.carried.Carried.{Carried}
+use Rattle.vl_port.specs.declared.carried.Carried.TheVariants.{Passed}
 use Rattle.vl_port.specs.declared.who.Who.{Who}
 use Rattle.vl_port.specs.View.{View}
-use Rattle.vl_port.specs.Counting.{Faults}
+use Rattle.vl_port.specs.Calls.{PortView}
+use Rattle.vl_port.specs.Losses.{Losses}
 use Rattle.vl_port.specs.Keeping.{IsKept}
 use Rattle.vl_port.specs.Serving.{Serves}
 use Rattle.vl_shard.specs.Parts.{Parts, view_of}
 
--- the catalog, the shards by their numbers, and how many acts and commits were carried
-pub record BankParts : Type 0 where
+-- the catalog, the shards by their numbers, the link, how many acts and commits were carried to each
+-- shard, and the way of the last one
+pub record BankParts (L : Type 0) : Type 0 where
   pub catalog : Catalog
   pub shards : List Parts
-  pub carried : ℕ
+  pub link : L
+  pub carried : List ℕ
+  pub way : Carried
 
 -- where there is no shard, none was ever opened and nothing is held
 abbrev pub no_shard : Parts
@@ -23,20 +29,43 @@ abbrev pub shard_seen : List Parts → ℕ → View
 shard_seen shards shard = view_of (slice_index_or shards shard no_shard)
 
 -- how many shards a bank has, and what it shows of each
-abbrev pub count_of : BankParts → ℕ
+abbrev pub count_of : {L : Type 0} → BankParts L → ℕ
 count_of bank = length bank.shards
 
-abbrev pub seen_of : BankParts → ℕ → View
+abbrev pub seen_of : {L : Type 0} → BankParts L → ℕ → View
 seen_of bank = shard_seen bank.shards
+
+-- how many acts and commits were carried to each shard
+abbrev pub carried_of : List ℕ → ℕ → ℕ
+carried_of counts = λ shard. slice_index_or counts shard 0
+
+-- what a bank tells, by what its link has counted and is still to lose. There is no disk and no limit
+abbrev pub told_by : {L : Type 0} → BankParts L → ℕ → Option Losses → PortView
+told_by bank lost losses = record {
+  shards = seen_of bank;
+  faults = record { link = lost; disks = λ shard. 0 };
+  carried = carried_of bank.carried;
+  way = bank.way;
+  losses = losses;
+  over = λ shard who act. None;
+}
 
 -- the shards are those of the catalog, each key of each shard has one holder, a pending version's is the
 -- session that made it, and each version is a row that stands on its shard
-abbrev pub IsServing : BankParts → Type 0
+abbrev pub IsServing : {L : Type 0} → BankParts L → Type 0
 IsServing bank = Serves bank.catalog (count_of bank) (seen_of bank)
 
--- there is no link and no disk
-abbrev pub no_faults : Faults
-no_faults = record { link = 0; disks = λ shard. 0 }
+-- and what is carried to each shard is counted
+pub record IsBank {L : Type 0} (bank : BankParts L) : Type 0 where
+  pub serves : IsServing bank
+  pub counts : length bank.carried ≡ count_of bank
+
+-- a bank over this link to which nothing was carried yet
+pub record IsFresh {L : Type 0} (served : Catalog) (way_there : L) (bank : BankParts L) : Type 0 where
+  pub catalog : bank.catalog ≡ served
+  pub link : bank.link ≡ way_there
+  pub carried : bank.carried ≡ replicate (count_of bank) 0
+  pub way : bank.way ≡ Passed
 
 -- no key has a version or a holder, and no session is open
 pub record IsEmpty (view : View) : Type 0 where
@@ -44,6 +73,7 @@ pub record IsEmpty (view : View) : Type 0 where
   pub pending : (key : Key) → view.pending key ≡ None
   pub holder : (key : Key) → view.holder key ≡ None
   pub sessions : (who : Who) → view.sessions who ≡ None
+  pub doubt : (key : Key) → view.doubt key ≡ None
 
 -- this many shards, all empty and of their first incarnation
 pub record AreNew (shards : List Parts) (count : ℕ) : Type 0 where

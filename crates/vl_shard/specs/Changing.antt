@@ -8,7 +8,8 @@ use Rattle.vl_port.specs.declared.act.Act.TheVariants.{Remove}
 use Rattle.vl_port.specs.declared.who.Who.{Who}
 use Rattle.vl_port.specs.View.{View, Values}
 use Rattle.vl_port.specs.Holding.{IsFree, IsHeld}
-use Rattle.vl_port.specs.Acting.{opened, taken}
+use Rattle.vl_port.specs.Acting.{taken}
+use Rattle.vl_port.specs.Life.{opened}
 use Rattle.vl_rows.specs.Versions.{SameVersions, pending_at, with_change, changed_to}
 use Rattle.vl_shard.specs.Seats.{SameSeats}
 use Rattle.vl_shard.specs.Parts.{Parts}

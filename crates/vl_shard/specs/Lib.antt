@@ -1,4 +1,5 @@
 pub mod Banks
+pub mod Calls
 pub mod Changing
 pub mod Obtaining
 pub mod Parts

@@ -1,11 +1,13 @@
 -- The seats of a shard: each is free, or a shard session has it. A seat's place is the session's number.
-use Rattle.std.specs.Prelude.{◌≡◌, ◌<◌, ◌≤◌, ◌^◌, ℕ, Bool, false, List, [], ◌∷◌, length, if◌then◌else◌, slice_index_or}
+use Rattle.std.specs.Prelude.{◌≡◌, ◌<◌, ◌≤◌, ◌^◌, ℕ, Bool, false, ◌==◌, ◌&&◌, List, [], ◌∷◌, length, if◌then◌else◌, slice_index_or}
 use Rattle.std.specs.declared.option.Option.{Option}
 use Rattle.std.specs.declared.option.Option.TheVariants.{Some, None}
+use Rattle.vl_values.specs.declared.group.Group.{Group}
+use Rattle.vl_port.specs.declared.fate.Fate.{Fate}
 use Rattle.vl_port.specs.declared.opened.Opened.{Opened}
 use Rattle.vl_port.specs.declared.who.Who.{Who}
-use Rattle.vl_port.specs.View.{is_who}
-use Rattle.vl_port.specs.Acting.{opened_at}
+use Rattle.vl_port.specs.View.{is_group, is_who}
+use Rattle.vl_port.specs.Life.{lives_in, opened_at}
 use Rattle.vl_shard.specs.declared.seat.Seat.{Seat}
 
 -- whether a seat is this session's
@@ -24,7 +26,7 @@ name_of (Some seat) = Some seat.who
 abbrev pub who_at : List (Option Seat) → ℕ → Option Who
 who_at seats conn = name_of (seat_at seats conn)
 
--- what the shard keeps of an open session
+-- what the shard keeps of a session that was opened
 abbrev pub session_of : List (Option Seat) → Who → Option Opened
 session_of [] who = None
 session_of (None ∷ seats) who = session_of seats who
@@ -63,3 +65,13 @@ pub record HasSat (old : List (Option Seat)) (who : Who) (incarnation conn : ℕ
 abbrev pub left_by : Who → Option Seat → Option Seat
 left_by who None = None
 left_by who (Some seat) = if is_who seat.who who then None else Some seat
+
+-- the seat with this session's fate
+abbrev pub lost_by : Fate → Who → Option Seat → Option Seat
+lost_by fate who None = None
+lost_by fate who (Some seat) = if is_who seat.who who then Some (record seat { opened = record seat.opened { fate = fate } }) else Some seat
+
+-- whether a seat is that of a live session of this client session and group
+abbrev pub is_live_of : ℕ → Group → ℕ → Option Seat → Bool
+is_live_of session group incarnation None = false
+is_live_of session group incarnation (Some seat) = (seat.who.session == session) && (is_group seat.who.group (Some group) && lives_in incarnation (Some seat.opened))

@@ -1,9 +1,13 @@
-ghost use Rattle.std.specs.Prelude.{◌≡◌};
+ghost use Rattle.std.specs.Prelude.{◌≡◌, Some};
 ghost use Rattle.vl_port.specs.View.{is_who, is_group};
-ghost use Rattle.vl_shard.specs.Seats.{is_of};
+ghost use Rattle.vl_port.specs.Life.{lives_in};
+ghost use Rattle.vl_shard.specs.Seats.{is_of, is_live_of};
 
 use crate::seat::Seat;
+use vl_port::fate::Fate;
+use vl_port::opened::Opened;
 use vl_port::who::Who;
+use vl_values::SessionNo;
 use vl_values::group::Group;
 
 fn is_same_group(group: Option<Group>, other: Option<Group>) -> bool
@@ -31,6 +35,30 @@ pub fn is_seat_of(seat: &Option<Seat>, who: &Who) -> bool
 {
     match seat {
         Some(seat) => is_same(&seat.who, who),
+        None => false,
+    }
+}
+
+fn lives_in(incarnation: u64, opened: Opened) -> bool
+    ensures { result ≡ lives_in incarnation (Some opened) }
+{
+    match opened.fate {
+        Fate::Live => opened.incarnation == incarnation,
+        Fate::Dropped | Fate::Cut => false,
+    }
+}
+
+/// Whether the seat is that of a live session of this client session and group, on a shard of this
+/// incarnation.
+pub fn is_live_of(seat: &Option<Seat>, session: SessionNo, group: Group, incarnation: u64) -> bool
+    ensures { result ≡ is_live_of session group incarnation seat.now }
+{
+    match seat {
+        Some(seat) => {
+            seat.who.session == session
+                && is_same_group(seat.who.group, Some(group))
+                && lives_in(incarnation, seat.opened)
+        }
         None => false,
     }
 }

@@ -1,17 +1,23 @@
-ghost use Rattle.std.specs.Prelude.{◌≡◌, ℕ, List, [], IsTrue, IfOk, IfSome, IfNone, map, position, length, Some, ◌<◌, true};
+ghost use Rattle.std.specs.Prelude.{◌≡◌, ℕ, List, [], IsTrue, IfOk, IfSome, IfNone, map, position, length, Some, ◌<◌, true, false};
 ghost use Rattle.std.specs.Option.{is_some};
+ghost use Rattle.vl_port.specs.declared.who.Who.{Who as AWho};
+ghost use Rattle.vl_port.specs.Life.{lives_in, loss_in, why_lost};
 ghost use Rattle.vl_shard.specs.declared.seat.Seat.{Seat as ASeat};
-ghost use Rattle.vl_shard.specs.Seats.{seat_at, IsAbsent, IsPlaceFor, SameSeats, HasSat, left_by, is_of, IsNumbered, IsOnce};
+ghost use Rattle.vl_shard.specs.Seats.{seat_at, session_of, IsAbsent, IsPlaceFor, SameSeats, HasSat, left_by, lost_by, is_live_of, is_of, IsNumbered, IsOnce};
 
-use crate::naming::is_seat_of;
+use crate::naming::{is_live_of, is_same, is_seat_of};
 use crate::seat::Seat;
 use std::alloc::{AllocError, Global};
 use std::marker::Model;
+use vl_port::fate::Fate;
 use vl_port::opened::Opened;
 use vl_port::who::Who;
+use vl_values::group::Group;
+use vl_values::lost_why::LostWhy;
 use vl_values::{ConnNo, SessionNo};
 
-/// The open shard sessions, each in a seat whose place is its number.
+/// The shard sessions that were opened and haven't ended, lost or not, each in a seat whose place is its
+/// number.
 #[derive(Debug, Drop)]
 pub struct Seats {
     seats: Vec<Option<Seat>>,
@@ -99,7 +105,7 @@ impl Seats {
         if self.seats[place].is_none() {
             let opened = Opened {
                 incarnation,
-                killed: false,
+                fate: Fate::Live,
             };
             self.seats[place] = Some(Seat { who, opened });
         }
@@ -113,6 +119,55 @@ impl Seats {
             Some(Some(seat)) => seat.who.session,
             _ => 0,
         }
+    }
+
+    /// Why a session is lost on a shard of this incarnation; none where it isn't, or isn't open.
+    pub fn loss(&self, who: &Who, incarnation: u64) -> Option<LostWhy>
+        ensures { result ≡ loss_in incarnation (session_of self.now who.now) }
+    {
+        let place = self.place_of(who);
+        match place {
+            Some(place) => match &self.seats[place] {
+                Some(seat) => why_lost(seat.opened, incarnation),
+                None => None,
+            },
+            None => None,
+        }
+    }
+
+    /// The first live shard session of a client session and group, on a shard of this incarnation.
+    pub fn live(&self, session: SessionNo, group: Group, incarnation: u64) -> Option<Who>
+        ensures session { IfSome result (λ who. who.session ≡ session) }
+        ensures group { IfSome result (λ who. who.group ≡ Some group) }
+        ensures live { IfSome result (λ who. lives_in incarnation (session_of self.now who) ≡ true) }
+        ensures none { IfNone result ((who : AWho) → who.session ≡ session → who.group ≡ Some group → lives_in incarnation (session_of self.now who) ≡ false) }
+    {
+        let place = self.live_place(session, group, incarnation);
+        match place {
+            Some(place) => match &self.seats[place] {
+                Some(seat) => Some(seat.who),
+                None => None,
+            },
+            None => None,
+        }
+    }
+
+    // The place of that session's seat.
+    fn live_place(&self, session: SessionNo, group: Group, incarnation: u64) -> Option<usize>
+        ensures live { IfSome result (λ place. (place < length self.now) × (is_live_of session group incarnation (seat_at self.now place) ≡ true)) }
+        ensures none { IfNone result ((place : ℕ) → is_live_of session group incarnation (seat_at self.now place) ≡ false) }
+        ensures once { IsOnce self.now }
+    {
+        self.seats
+            .iter()
+            .position(|seat| is_live_of(seat, session, group, incarnation))
+    }
+
+    /// The session is lost from now on, and keeps its seat.
+    pub fn lose(&mut self, who: &Who, fate: Fate)
+        ensures { self.new ≡ map (lost_by fate who.now) self.old }
+    {
+        lose_all(self.seats.as_mut_slice(), who, fate);
     }
 
     /// The session's seat is free from now on.
@@ -136,5 +191,43 @@ fn leave_all(seats: &mut [Option<Seat>], who: &Who)
 {
     for seat in seats.iter_mut() {
         leave_seat(seat, who);
+    }
+}
+
+fn lose_seat(seat: &mut Option<Seat>, who: &Who, fate: Fate)
+    ensures { seat.new ≡ lost_by fate who.now seat.old }
+{
+    if let Some(seat) = seat
+        && is_same(&seat.who, who)
+    {
+        seat.opened.fate = fate;
+    }
+}
+
+fn lose_all(seats: &mut [Option<Seat>], who: &Who, fate: Fate)
+    ensures { seats.new ≡ map (lost_by fate who.now) seats.old }
+{
+    for seat in seats.iter_mut() {
+        lose_seat(seat, who, fate);
+    }
+}
+
+// Why a session is lost that was opened so; a Drop comes before a restart.
+fn why_lost(opened: Opened, current: u64) -> Option<LostWhy>
+    ensures { result ≡ why_lost opened.fate opened.incarnation current }
+{
+    match opened.fate {
+        Fate::Live => {
+            if opened.incarnation == current {
+                None
+            } else {
+                Some(LostWhy::Restarted {
+                    had: opened.incarnation,
+                    current,
+                })
+            }
+        }
+        Fate::Dropped => Some(LostWhy::Dropped),
+        Fate::Cut => Some(LostWhy::Link),
     }
 }

@@ -1,13 +1,18 @@
 ghost use Rattle.std.specs.Prelude.{◌≡◌, ◌∷◌, ◌≢◌, ◌<◌, ℕ, List, [], All, Some, None, IsTrue, true, false, IfOk, OnOk, OnErr, IfSome, IfNone, map};
 ghost use Rattle.std.specs.List.{AllWithin, HoldsAt};
 ghost use Rattle.vl_values.specs.declared.key.Key.{Key as AKey};
+ghost use Rattle.vl_port.specs.declared.fate.Fate.{Fate as AFate};
 ghost use Rattle.vl_values.specs.declared.value.Value.{Value as AValue};
 ghost use Rattle.vl_values.specs.Keyed.{AreInOrder, InKeyOrder, is_among_keys};
 ghost use Rattle.vl_port.specs.declared.act.Act.TheVariants as acts;
 ghost use Rattle.vl_port.specs.View.{has_group, standing};
 ghost use Rattle.vl_port.specs.Reading.{IsRead};
 ghost use Rattle.vl_port.specs.Holding.{needs};
-ghost use Rattle.vl_port.specs.Acting.{Acted, Settled, Closed, has_value, settled, closed};
+ghost use Rattle.vl_port.specs.declared.carried.Carried.TheVariants as ways;
+ghost use Rattle.vl_port.specs.Acting.{has_value, settled};
+ghost use Rattle.vl_port.specs.Calls.{IsLimited};
+ghost use Rattle.vl_port.specs.Carrying.{Carries, Closes, CommitCarries, CommitUses, Uses};
+ghost use Rattle.vl_port.specs.Life.{closed, loss_of, lost_as, opened};
 ghost use Rattle.vl_port.specs.Keeping.{IsKept};
 ghost use Rattle.vl_port.specs.Taking.{takes_keys};
 ghost use Rattle.vl_rows.specs.Versions.{has_room};
@@ -17,6 +22,7 @@ ghost use Rattle.vl_shard.specs.Seats.{IsPlaceFor, left_by};
 ghost use Rattle.vl_shard.specs.Parts.{Parts, view_of, IsWhole};
 ghost use Rattle.vl_shard.specs.Banks.{IsEmpty};
 ghost use Rattle.vl_shard.specs.Obtaining.{Obtains, HasObtained, IsRefused};
+ghost use Rattle.vl_shard.specs.Calls.{Acts, Drops, IsRefusal};
 ghost use Rattle.vl_shard.specs.Changing.{IsUnseen, IsWritten, TakesKey, ChangesKey};
 
 use crate::seats::Seats;
@@ -25,17 +31,21 @@ use std::marker::Model;
 use vl_locks::locks::Locks;
 use vl_port::act::Act;
 use vl_port::answer::Answer;
+use vl_port::carried::Carried;
 use vl_port::committed::Committed;
+use vl_port::fate::Fate;
 use vl_port::found_rows::FoundRows;
 use vl_port::who::Who;
 use vl_rows::rows::Rows;
+use vl_values::group::Group;
 use vl_values::key::Key;
+use vl_values::lost_why::LostWhy;
 use vl_values::pred::Pred;
 use vl_values::row::Row;
 use vl_values::value::Value;
 use vl_values::{ConnNo, SessionNo};
 
-/// A shard without a device: its rows in two versions, its locks and its open shard sessions.
+/// A shard without a device: its rows in two versions, its locks, and the shard sessions that were opened.
 #[derive(Debug, Drop)]
 pub struct Shard {
     alloc: Global,
@@ -79,6 +89,13 @@ fn depart(locks: &mut Locks, seats: &mut Seats, who: &Who, conn: ConnNo)
 {
     locks.release(conn);
     seats.leave(who);
+}
+
+// Whether memory was refused.
+fn is_refusal(answer: &Answer) -> bool
+    ensures { IsRefusal result answer.now }
+{
+    matches!(answer, Answer::Memory)
 }
 
 // Whether this is a shard session, and not a read without one.
@@ -127,6 +144,7 @@ impl Shard {
     // Takes the locks of these keys, which are free for the session.
     fn take(&mut self, who: &Who, conn: ConnNo, keys: &[Key]) -> Result<(), AllocError>
         requires place { IsPlaceFor self.old.seats who.now conn }
+        requires live { loss_of (view_of self.old) who.now ≡ None }
         requires free { All (IsFreeFor self.old.holds conn) keys.now }
         ensures ok { OnOk result (HasObtained self.old who.now conn keys.now self.new) }
         ensures err { OnErr result (self.new ≡ self.old) }
@@ -144,7 +162,8 @@ impl Shard {
         conn: ConnNo,
         keys: Vec<Key>,
     ) -> Result<Option<Holder>, AllocError>
-        requires { IsPlaceFor self.old.seats who.now conn }
+        requires place { IsPlaceFor self.old.seats who.now conn }
+        requires live { loss_of (view_of self.old) who.now ≡ None }
         ensures ok { IfOk result (λ held. Obtains self.old who.now conn keys.items held self.new) }
         ensures err { OnErr result (self.new ≡ self.old) }
     {
@@ -230,7 +249,8 @@ impl Shard {
 
     // Takes the lock of a key.
     fn lock(&mut self, who: &Who, key: &Key) -> Result<Option<Holder>, AllocError>
-        requires { has_group who.now.group ≡ true }
+        requires group { has_group who.now.group ≡ true }
+        requires live { loss_of (view_of self.old) who.now ≡ None }
         ensures ok { IfOk result (λ held. TakesKey (view_of self.old) who.now key.now held (view_of self.new)) }
         ensures err { OnErr result (view_of self.new ≡ view_of self.old) }
     {
@@ -247,7 +267,8 @@ impl Shard {
         key: &Key,
         row: Option<Row>,
     ) -> Result<Option<Holder>, AllocError>
-        requires { has_group who.now.group ≡ true }
+        requires group { has_group who.now.group ≡ true }
+        requires live { loss_of (view_of self.old) who.now ≡ None }
         ensures ok { IfOk result (λ held. ChangesKey (view_of self.old) who.now key.now row held (view_of self.new)) }
         ensures err { OnErr result (view_of self.new ≡ view_of self.old) }
     {
@@ -264,8 +285,9 @@ impl Shard {
     }
 
     fn put(&mut self, who: &Who, key: &Key, row: &Row) -> Result<Answer, AllocError>
-        requires { has_group who.now.group ≡ true }
-        ensures ok { IfOk result (λ answer. Acted (view_of self.old) who.now (acts.Put key.now row.now) answer (view_of self.new)) }
+        requires group { has_group who.now.group ≡ true }
+        requires live { loss_of (view_of self.old) who.now ≡ None }
+        ensures ok { IfOk result (λ answer. Acts (view_of self.old) who.now (acts.Put key.now row.now) answer (view_of self.new)) }
         ensures err { OnErr result (view_of self.new ≡ view_of self.old) }
     {
         let row = row.copy(self.alloc)?;
@@ -277,8 +299,9 @@ impl Shard {
     }
 
     fn remove(&mut self, who: &Who, key: &Key) -> Result<Answer, AllocError>
-        requires { has_group who.now.group ≡ true }
-        ensures ok { IfOk result (λ answer. Acted (view_of self.old) who.now (acts.Remove key.now) answer (view_of self.new)) }
+        requires group { has_group who.now.group ≡ true }
+        requires live { loss_of (view_of self.old) who.now ≡ None }
+        ensures ok { IfOk result (λ answer. Acts (view_of self.old) who.now (acts.Remove key.now) answer (view_of self.new)) }
         ensures err { OnErr result (view_of self.new ≡ view_of self.old) }
     {
         let held = self.change(who, key, None)?;
@@ -291,8 +314,9 @@ impl Shard {
     // An Insert where the session sees no version.
     fn insert_new(&mut self, who: &Who, key: &Key, row: &Row) -> Result<Answer, AllocError>
         requires group { has_group who.now.group ≡ true }
+        requires live { loss_of (view_of self.old) who.now ≡ None }
         requires absent { standing (view_of self.old) who.now key.now ≡ None }
-        ensures ok { IfOk result (λ answer. Acted (view_of self.old) who.now (acts.Insert key.now row.now) answer (view_of self.new)) }
+        ensures ok { IfOk result (λ answer. Acts (view_of self.old) who.now (acts.Insert key.now row.now) answer (view_of self.new)) }
         ensures err { OnErr result (view_of self.new ≡ view_of self.old) }
     {
         let row = row.copy(self.alloc)?;
@@ -306,8 +330,9 @@ impl Shard {
     // An Insert that meets this version.
     fn meet(&mut self, who: &Who, key: &Key, found: Row) -> Result<Answer, AllocError>
         requires group { has_group who.now.group ≡ true }
+        requires live { loss_of (view_of self.old) who.now ≡ None }
         requires found { standing (view_of self.old) who.now key.now ≡ Some found }
-        ensures ok { IfOk result (λ answer. (row : List AValue) → Acted (view_of self.old) who.now (acts.Insert key.now row) answer (view_of self.new)) }
+        ensures ok { IfOk result (λ answer. (row : List AValue) → Acts (view_of self.old) who.now (acts.Insert key.now row) answer (view_of self.new)) }
         ensures err { OnErr result (view_of self.new ≡ view_of self.old) }
     {
         let copy = key.copy(self.alloc)?;
@@ -322,8 +347,9 @@ impl Shard {
     }
 
     fn insert(&mut self, who: &Who, key: &Key, row: &Row) -> Result<Answer, AllocError>
-        requires { has_group who.now.group ≡ true }
-        ensures ok { IfOk result (λ answer. Acted (view_of self.old) who.now (acts.Insert key.now row.now) answer (view_of self.new)) }
+        requires group { has_group who.now.group ≡ true }
+        requires live { loss_of (view_of self.old) who.now ≡ None }
+        ensures ok { IfOk result (λ answer. Acts (view_of self.old) who.now (acts.Insert key.now row.now) answer (view_of self.new)) }
         ensures err { OnErr result (view_of self.new ≡ view_of self.old) }
     {
         let standing = self.standing(who, key)?;
@@ -342,8 +368,9 @@ impl Shard {
         value: &Value,
     ) -> Result<Answer, AllocError>
         requires group { has_group who.now.group ≡ true }
+        requires live { loss_of (view_of self.old) who.now ≡ None }
         requires has { has_value column value.now (standing (view_of self.old) who.now key.now) ≡ true }
-        ensures ok { IfOk result (λ answer. Acted (view_of self.old) who.now (acts.RemoveIf key.now column value.now) answer (view_of self.new)) }
+        ensures ok { IfOk result (λ answer. Acts (view_of self.old) who.now (acts.RemoveIf key.now column value.now) answer (view_of self.new)) }
         ensures err { OnErr result (view_of self.new ≡ view_of self.old) }
     {
         let held = self.change(who, key, None)?;
@@ -362,8 +389,9 @@ impl Shard {
         value: &Value,
     ) -> Result<Answer, AllocError>
         requires group { has_group who.now.group ≡ true }
+        requires live { loss_of (view_of self.old) who.now ≡ None }
         requires has_not { has_value column value.now (standing (view_of self.old) who.now key.now) ≡ false }
-        ensures ok { IfOk result (λ answer. Acted (view_of self.old) who.now (acts.RemoveIf key.now column value.now) answer (view_of self.new)) }
+        ensures ok { IfOk result (λ answer. Acts (view_of self.old) who.now (acts.RemoveIf key.now column value.now) answer (view_of self.new)) }
         ensures err { OnErr result (view_of self.new ≡ view_of self.old) }
     {
         let held = self.lock(who, key)?;
@@ -380,8 +408,9 @@ impl Shard {
         column: u16,
         value: &Value,
     ) -> Result<Answer, AllocError>
-        requires { has_group who.now.group ≡ true }
-        ensures ok { IfOk result (λ answer. Acted (view_of self.old) who.now (acts.RemoveIf key.now column value.now) answer (view_of self.new)) }
+        requires group { has_group who.now.group ≡ true }
+        requires live { loss_of (view_of self.old) who.now ≡ None }
+        ensures ok { IfOk result (λ answer. Acts (view_of self.old) who.now (acts.RemoveIf key.now column value.now) answer (view_of self.new)) }
         ensures err { OnErr result (view_of self.new ≡ view_of self.old) }
     {
         let standing = self.standing(who, key)?;
@@ -394,8 +423,9 @@ impl Shard {
 
     // A read of a shard session.
     fn find(&mut self, who: &Who, pred: &Pred, locking: bool) -> Result<Answer, AllocError>
-        requires { has_group who.now.group ≡ true }
-        ensures ok { IfOk result (λ answer. Acted (view_of self.old) who.now (acts.Find pred.now locking) answer (view_of self.new)) }
+        requires group { has_group who.now.group ≡ true }
+        requires live { loss_of (view_of self.old) who.now ≡ None }
+        ensures ok { IfOk result (λ answer. Acts (view_of self.old) who.now (acts.Find pred.now locking) answer (view_of self.new)) }
         ensures err { OnErr result (view_of self.new ≡ view_of self.old) }
     {
         let rows = self.rows_seen(who, pred)?;
@@ -411,15 +441,16 @@ impl Shard {
     // A plain read without a shard session.
     fn look(&self, who: &Who, pred: &Pred) -> Result<Answer, AllocError>
         requires { has_group who.now.group ≡ false }
-        ensures { IfOk result (λ answer. Acted (view_of self.now) who.now (acts.Find pred.now false) answer (view_of self.now)) }
+        ensures { IfOk result (λ answer. Acts (view_of self.now) who.now (acts.Find pred.now false) answer (view_of self.now)) }
     {
         let rows = self.rows_seen(who, pred)?;
         Ok(Answer::Rows(rows))
     }
 
     fn read(&mut self, who: &Who, pred: &Pred, locking: bool) -> Result<Answer, AllocError>
-        requires { locking ≡ true → has_group who.now.group ≡ true }
-        ensures ok { IfOk result (λ answer. Acted (view_of self.old) who.now (acts.Find pred.now locking) answer (view_of self.new)) }
+        requires group { locking ≡ true → has_group who.now.group ≡ true }
+        requires live { loss_of (view_of self.old) who.now ≡ None }
+        ensures ok { IfOk result (λ answer. Acts (view_of self.old) who.now (acts.Find pred.now locking) answer (view_of self.new)) }
         ensures err { OnErr result (view_of self.new ≡ view_of self.old) }
     {
         if has_group(who) {
@@ -430,8 +461,9 @@ impl Shard {
     }
 
     fn try_act(&mut self, who: &Who, act: &Act) -> Result<Answer, AllocError>
-        requires { takes_keys act.now ≡ true → has_group who.now.group ≡ true }
-        ensures ok { IfOk result (λ answer. Acted (view_of self.old) who.now act.now answer (view_of self.new)) }
+        requires group { takes_keys act.now ≡ true → has_group who.now.group ≡ true }
+        requires live { loss_of (view_of self.old) who.now ≡ None }
+        ensures ok { IfOk result (λ answer. Acts (view_of self.old) who.now act.now answer (view_of self.new)) }
         ensures err { OnErr result (view_of self.new ≡ view_of self.old) }
     {
         match act {
@@ -443,18 +475,109 @@ impl Shard {
         }
     }
 
-    /// One action of a shard session, or a plain read without one.
-    pub fn act(&mut self, who: &Who, act: &Act) -> Answer
-        requires { takes_keys act.now ≡ true → has_group who.now.group ≡ true }
-        ensures acted { Acted (view_of self.old) who.now act.now result (view_of self.new) }
-        ensures kept { IsKept (view_of self.new) }
+    // Gives a session its seat, or leaves it the one that it has.
+    fn sit(&mut self, who: &Who, conn: ConnNo)
+        requires group { has_group who.now.group ≡ true }
+        requires place { IsPlaceFor self.old.seats who.now conn }
+        ensures opened { view_of self.new ≡ opened who.now (view_of self.old) }
+        ensures same { self.new.incarnation ≡ self.old.incarnation }
     {
+        self.seats.sit(*who, conn, self.incarnation);
+    }
+
+    // Opens a shard session; a read without one opens none.
+    fn open(&mut self, who: &Who) -> Result<(), AllocError>
+        ensures ok { OnOk result (view_of self.new ≡ opened who.now (view_of self.old)) }
+        ensures err { OnErr result (view_of self.new ≡ view_of self.old) }
+        ensures same { self.new.incarnation ≡ self.old.incarnation }
+    {
+        if has_group(who) {
+            let conn = self.reserve_seat(who)?;
+            self.sit(who, conn);
+        }
+        Ok(())
+    }
+
+    // Rolls back a session that has this number; it stays listed with its fate.
+    fn roll_back(&mut self, who: &Who, conn: ConnNo, fate: Fate)
+        requires group { has_group who.now.group ≡ true }
+        requires place { IsPlaceFor self.old.seats who.now conn }
+        ensures { view_of self.new ≡ lost_as fate who.now (view_of self.old) }
+    {
+        self.rows.abandon(conn);
+        self.locks.release(conn);
+        self.seats.lose(who, fate);
+    }
+
+    // A session is lost and rolled back at once, where it is open.
+    fn lose(&mut self, who: &Who, fate: Fate)
+        ensures { view_of self.new ≡ lost_as fate who.now (view_of self.old) }
+    {
+        if has_group(who) {
+            if let Some(conn) = self.number(who) {
+                self.roll_back(who, conn, fate);
+            }
+        }
+    }
+
+    // An act that has arrived; a lost session tells its loss and does nothing.
+    fn take_act(&mut self, who: &Who, act: &Act) -> Answer
+        requires { takes_keys act.now ≡ true → has_group who.now.group ≡ true }
+        ensures used { Uses (loss_of (view_of self.old) who.now) (view_of self.old) who.now act.now result (view_of self.new) }
+        ensures limited { IsLimited None result }
+    {
+        if let Some(why) = self.seats.loss(who, self.incarnation) {
+            return Answer::Lost(why);
+        }
         let answer = self.try_act(who, act);
-        self.check();
         match answer {
             Ok(answer) => answer,
             Err(_) => Answer::Memory,
         }
+    }
+
+    // An act whose message was lost on its way.
+    fn miss_act(&mut self, who: &Who, act: &Act) -> Answer
+        ensures carried { Carries ways.LostBefore (view_of self.old) who.now act.now result (view_of self.new) }
+        ensures limited { IsLimited None result }
+    {
+        let _ = act;
+        let opened = self.open(who);
+        if opened.is_err() {
+            return Answer::Memory;
+        }
+        self.lose(who, Fate::Cut);
+        Answer::Lost(LostWhy::Link)
+    }
+
+    // An act whose answer was lost.
+    fn forget_act(&mut self, who: &Who, act: &Act) -> Answer
+        requires { takes_keys act.now ≡ true → has_group who.now.group ≡ true }
+        ensures carried { Carries ways.LostAfter (view_of self.old) who.now act.now result (view_of self.new) }
+        ensures limited { IsLimited None result }
+    {
+        let answer = self.take_act(who, act);
+        if is_refusal(&answer) {
+            return Answer::Memory;
+        }
+        self.lose(who, Fate::Cut);
+        Answer::Lost(LostWhy::Link)
+    }
+
+    /// One action of a shard session, or a plain read without one, by the way that its message took.
+    pub fn act(&mut self, who: &Who, act: &Act, way: Carried) -> Answer
+        requires { takes_keys act.now ≡ true → has_group who.now.group ≡ true }
+        ensures acted { Carries way (view_of self.old) who.now act.now result (view_of self.new) }
+        ensures limited { IsLimited None result }
+        ensures kept { IsKept (view_of self.new) }
+    {
+        let answer = match way {
+            Carried::Passed => self.take_act(who, act),
+            Carried::LostBefore => self.miss_act(who, act),
+            Carried::LostAfter => self.forget_act(who, act),
+        };
+        self.check();
+        answer
     }
 
     // What a shard keeps after every call.
@@ -466,7 +589,8 @@ impl Shard {
 
     fn settle(&mut self, who: &Who, conn: ConnNo)
         requires { IsPlaceFor self.old.seats who.now conn }
-        ensures { view_of self.new ≡ settled who.now (view_of self.old) }
+        ensures settled { view_of self.new ≡ settled who.now (view_of self.old) }
+        ensures same { self.new.incarnation ≡ self.old.incarnation }
     {
         self.rows.settle(conn);
         depart(&mut self.locks, &mut self.seats, who, conn);
@@ -474,7 +598,8 @@ impl Shard {
 
     fn abandon(&mut self, who: &Who, conn: ConnNo)
         requires { IsPlaceFor self.old.seats who.now conn }
-        ensures { view_of self.new ≡ closed who.now (view_of self.old) }
+        ensures closed { view_of self.new ≡ closed who.now (view_of self.old) }
+        ensures same { self.new.incarnation ≡ self.old.incarnation }
     {
         self.rows.abandon(conn);
         depart(&mut self.locks, &mut self.seats, who, conn);
@@ -485,30 +610,74 @@ impl Shard {
         ensures open { IfSome result (IsPlaceFor self.now.seats who.now) }
         ensures settled { IfNone result (view_of self.now ≡ settled who.now (view_of self.now)) }
         ensures closed { IfNone result (view_of self.now ≡ closed who.now (view_of self.now)) }
+        ensures lost { IfNone result ((fate : AFate) → view_of self.now ≡ lost_as fate who.now (view_of self.now)) }
     {
         self.seats.find(who)
     }
 
-    /// Commits a shard session: what it changed is committed, and it ends.
-    pub fn commit(&mut self, who: &Who) -> Committed
-        ensures settled { Settled (view_of self.old) who.now result (view_of self.new) }
-        ensures kept { IsKept (view_of self.new) }
+    // A commit that has arrived; a lost session tells its loss. The session ends.
+    fn take_commit(&mut self, who: &Who) -> Committed
+        ensures used { CommitUses (loss_of (view_of self.old) who.now) (view_of self.old) who.now result (view_of self.new) }
+        ensures same { self.new.incarnation ≡ self.old.incarnation }
     {
+        if let Some(why) = self.seats.loss(who, self.incarnation) {
+            self.close(who);
+            return Committed::Lost(why);
+        }
         if let Some(conn) = self.number(who) {
             self.settle(who, conn);
         }
-        self.check();
         Committed::Done
+    }
+
+    /// Commits a shard session, by the way that the message took: what it changed is committed. It ends,
+    /// whatever the outcome.
+    pub fn commit(&mut self, who: &Who, way: Carried) -> Committed
+        ensures settled { CommitCarries way (view_of self.old) who.now result (view_of self.new) }
+        ensures same { self.new.incarnation ≡ self.old.incarnation }
+        ensures kept { IsKept (view_of self.new) }
+    {
+        let outcome = match way {
+            Carried::Passed => self.take_commit(who),
+            Carried::LostBefore => {
+                self.close(who);
+                Committed::Lost(LostWhy::Link)
+            }
+            Carried::LostAfter => {
+                let _ = self.take_commit(who);
+                Committed::Lost(LostWhy::Link)
+            }
+        };
+        self.check();
+        outcome
     }
 
     /// Ends a shard session, its locks and its changes.
     pub fn close(&mut self, who: &Who)
-        ensures closed { Closed (view_of self.old) who.now (view_of self.new) }
+        ensures closed { Closes (view_of self.old) who.now (view_of self.new) }
+        ensures same { self.new.incarnation ≡ self.old.incarnation }
         ensures kept { IsKept (view_of self.new) }
     {
         if let Some(conn) = self.number(who) {
             self.abandon(who, conn);
         }
         self.check();
+    }
+
+    /// Kills the first live shard session of a client session and group, and tells whether there was one.
+    pub fn drop_session(&mut self, session: SessionNo, group: Group) -> bool
+        ensures dropped { Drops (view_of self.old) session group result (view_of self.new) }
+        ensures kept { IsKept (view_of self.new) }
+    {
+        let live = self.seats.live(session, group, self.incarnation);
+        let found = match live {
+            Some(who) => {
+                self.lose(&who, Fate::Dropped);
+                true
+            }
+            None => false,
+        };
+        self.check();
+        found
     }
 }

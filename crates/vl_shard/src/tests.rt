@@ -12,11 +12,16 @@ use std::test::Fail;
 use vl_catalog::Catalog;
 use vl_port::act::Act;
 use vl_port::answer::Answer;
+use vl_port::carried::Carried::{self, LostAfter, LostBefore, Passed};
+use vl_port::committed::Committed;
+use vl_port::loss::Loss;
 use vl_port::port::ShardPort;
+use vl_port::script_link::ScriptLink;
 use vl_port::who::Who;
 use vl_values::SessionNo;
-use vl_values::group::Group;
+use vl_values::group::Group::{self, Main, Post, Pre};
 use vl_values::key::Key;
+use vl_values::lost_why::LostWhy;
 use vl_values::pred::Pred;
 use vl_values::row::Row;
 use vl_values::test::Test;
@@ -42,6 +47,10 @@ enum Call {
     Look(u64),
     Commit,
     Close,
+    /// Kills a session.
+    Kill,
+    /// The link is to lose the next message, or its answer.
+    Lose(bool),
 }
 
 #[derive(Clone, Copy, Debug, PartialEq, Eq)]
@@ -54,8 +63,19 @@ enum Told {
     Found(u64),
     /// The session in the way, and the key.
     Held(SessionNo, u64),
+    Lost(LostWhy),
+    /// There was no session to be killed.
+    Nobody,
     Other,
 }
+
+const CUT: Told = Told::Lost(LostWhy::Link);
+
+const DROPPED: Told = Told::Lost(LostWhy::Dropped);
+
+// A client session and the group of its shard session, its call, what it is told, and the way that
+// the last message took.
+type Step = (SessionNo, Group, Call, Told, Carried);
 
 fn values(alloc: Global, number: u64) -> Result<Row, AllocError>
     ensures { IfOk result (λ row. row ≡ values.Uint number ∷ []) }
@@ -160,7 +180,7 @@ fn act_of(alloc: Global, catalog: &Catalog, call: Call) -> Result<Act, Fail>
             })
         }
         Call::Find(value) | Call::Look(value) => Ok(plain(alloc, value)?),
-        Call::Commit | Call::Close => Ok(plain(alloc, 0)?),
+        Call::Commit | Call::Close | Call::Kill | Call::Lose(_) => Ok(plain(alloc, 0)?),
     }
 }
 
@@ -193,22 +213,33 @@ fn answered(answer: &Answer) -> Told {
         Answer::Rows(rows) => Told::Keys(digits(rows.as_slice())),
         Answer::Found { row, .. } => Told::Found(number(row)),
         Answer::Held { by, key } => Told::Held(*by, digit(key)),
+        Answer::Lost(why) => Told::Lost(*why),
         _ => Told::Other,
     }
 }
 
-fn who(session: SessionNo, group: Group) -> Who {
+fn committed(outcome: Committed) -> Told {
+    match outcome {
+        Committed::Done => Told::Done,
+        Committed::Lost(why) => Told::Lost(why),
+        Committed::Device => Told::Other,
+    }
+}
+
+fn who(session: SessionNo, group: Option<Group>) -> Who
+    ensures { result.group ≡ group }
+{
     Who {
         session,
         tx: u64::from(session),
-        group: Some(group),
+        group,
     }
 }
 
 // What the first of the two shards answers.
 fn ask(
     alloc: Global,
-    bank: &mut Bank,
+    bank: &mut Bank<ScriptLink>,
     session: SessionNo,
     group: Group,
     call: Call,
@@ -219,125 +250,240 @@ fn ask(
     if bank.len() != 2 {
         return Ok(Told::Other);
     }
+    let own = who(session, Some(group));
     match call {
-        Call::Commit => {
-            let _ = bank.commit(who(session, group), 0);
+        Call::Lose(after) => {
+            bank.link_mut().arm(0, Loss { nth: 1, after });
             Ok(Told::Done)
         }
+        Call::Kill => {
+            let found = bank.drop_session(session, group, 0);
+            Ok(if found { Told::Done } else { Told::Nobody })
+        }
+        Call::Commit => Ok(committed(bank.commit(own, 0))),
         Call::Close => {
-            bank.close(who(session, group), 0);
+            bank.close(own, 0);
             Ok(Told::Done)
         }
         Call::Look(value) => {
             let act = plain(alloc, value)?;
-            let nobody = Who {
-                session,
-                tx: u64::from(session),
-                group: None,
-            };
-            Ok(answered(&bank.act(nobody, 0, &act)))
+            Ok(answered(&bank.act(who(session, None), 0, &act)))
         }
         _ => {
             let act = act_of(alloc, bank.catalog(), call)?;
-            let who = Who {
-                session,
-                tx: u64::from(session),
-                group: Some(group),
-            };
-            Ok(answered(&bank.act(who, 0, &act)))
+            Ok(answered(&bank.act(own, 0, &act)))
         }
     }
 }
 
 // What a read of the second shard finds.
-fn second(alloc: Global, bank: &mut Bank, value: u64) -> Result<Told, AllocError>
+fn second(alloc: Global, bank: &mut Bank<ScriptLink>, value: u64) -> Result<Told, AllocError>
     requires { bank.old.catalog ≡ catalog_a }
 {
     if bank.len() != 2 {
         return Ok(Told::Other);
     }
     let act = plain(alloc, value)?;
-    let nobody = Who {
-        session: 9,
-        tx: 9,
-        group: None,
-    };
-    Ok(answered(&bank.act(nobody, 1, &act)))
+    Ok(answered(&bank.act(who(9, None), 1, &act)))
 }
 
-fn new_bank(alloc: Global) -> Result<Bank, AllocError>
+// How many messages were carried to each of the two shards.
+fn carried(bank: &Bank<ScriptLink>) -> (u64, u64) {
+    if bank.len() != 2 {
+        return (0, 0);
+    }
+    (bank.carried(0), bank.carried(1))
+}
+
+// Whether the call is an act or a commit, which the link carries.
+fn is_message(call: Call) -> bool {
+    !matches!(call, Call::Close | Call::Kill | Call::Lose(_))
+}
+
+fn new_bank(alloc: Global) -> Result<Bank<ScriptLink>, AllocError>
     ensures { IfOk result (λ bank. bank.catalog ≡ catalog_a) }
 {
     let catalog = Catalog::a(alloc)?;
-    Bank::new(alloc, &catalog)
+    let link = ScriptLink::new(alloc, 2)?;
+    Bank::new(alloc, &catalog, link)
 }
 
-// Each call by its session, with what it is to answer.
-fn play(
-    rt: &impl Abort,
-    alloc: Global,
-    bank: &mut Bank,
-    steps: &[(SessionNo, Group, Call, Told)],
-) -> Result<(), Fail>
-    requires { bank.old.catalog ≡ catalog_a }
-    ensures { bank.new.catalog ≡ bank.old.catalog }
-{
-    for (session, group, call, expected) in steps {
-        let told = ask(alloc, bank, *session, *group, *call)?;
+// Each call by its session, with what it is to answer. All are on the first shard, and each act and
+// each commit is carried once.
+fn play(rt: &impl Abort, alloc: Global, steps: &[Step]) -> Result<(), Fail> {
+    let mut bank = new_bank(alloc)?;
+    let mut messages: u64 = 0;
+    for (session, group, call, expected, way) in steps {
+        let told = ask(alloc, &mut bank, *session, *group, *call)?;
         assert_eq!(rt; told, *expected, "{call:?}");
+        assert_eq!(rt; bank.way(), *way, "{call:?}");
+        messages = messages.wrapping_add(u64::from(is_message(*call)));
+        assert_eq!(rt; carried(&bank), (messages, 0), "{call:?}");
     }
+    assert_eq!(rt; second(alloc, &mut bank, 7)?, Told::Keys(0));
     Ok(())
 }
 
+static DELETE_WAITS: [Step; 8] = [
+    (1, Main, Call::Insert(1, 2), Told::Done, Passed),
+    (2, Main, Call::LockKey(1), Told::Held(1, 1), Passed),
+    (2, Main, Call::LockKey(1), Told::Held(1, 1), Passed),
+    (1, Main, Call::Commit, Told::Done, Passed),
+    (2, Main, Call::LockKey(1), Told::Keys(1), Passed),
+    (2, Main, Call::Remove(1), Told::Done, Passed),
+    (2, Main, Call::Commit, Told::Done, Passed),
+    (1, Main, Call::Look(2), Told::Keys(0), Passed),
+];
+
+static OWN_KEYS: [Step; 23] = [
+    (1, Main, Call::Insert(1, 7), Told::Done, Passed),
+    (1, Main, Call::Insert(2, 7), Told::Done, Passed),
+    (1, Main, Call::Insert(2, 8), Told::Found(7), Passed),
+    (2, Main, Call::Find(7), Told::Keys(0), Passed),
+    (1, Pre, Call::Find(7), Told::Keys(0), Passed),
+    (1, Main, Call::Find(7), Told::Keys(12), Passed),
+    (2, Main, Call::Insert(3, 7), Told::Done, Passed),
+    (1, Pre, Call::Lock(7), Told::Held(1, 1), Passed),
+    (2, Main, Call::Put(2, 9), Told::Held(1, 2), Passed),
+    (1, Main, Call::Lock(7), Told::Held(2, 3), Passed),
+    (1, Main, Call::Commit, Told::Done, Passed),
+    (9, Main, Call::Look(7), Told::Keys(12), Passed),
+    (2, Main, Call::Lock(7), Told::Keys(123), Passed),
+    (2, Main, Call::RemoveIf(1, 8), Told::Unchanged, Passed),
+    (2, Main, Call::RemoveIf(1, 7), Told::Done, Passed),
+    (1, Pre, Call::RemoveIf(2, 7), Told::Held(2, 2), Passed),
+    (2, Main, Call::Put(2, 9), Told::Done, Passed),
+    (2, Main, Call::Find(9), Told::Keys(2), Passed),
+    (2, Main, Call::Close, Told::Done, Passed),
+    (1, Pre, Call::Lock(7), Told::Keys(12), Passed),
+    (1, Pre, Call::Close, Told::Done, Passed),
+    (2, Main, Call::Insert(1, 8), Told::Found(7), Passed),
+    (1, Pre, Call::Remove(1), Told::Held(2, 1), Passed),
+];
+
+static LOST_BEFORE: [Step; 33] = [
+    (1, Main, Call::Insert(1, 7), Told::Done, Passed),
+    (1, Main, Call::Commit, Told::Done, Passed),
+    (1, Main, Call::Lose(false), Told::Done, Passed),
+    (1, Main, Call::Insert(2, 7), CUT, LostBefore),
+    (2, Main, Call::Insert(2, 8), Told::Done, Passed),
+    // It stays lost until it ends, and is then opened anew.
+    (1, Main, Call::Find(7), CUT, Passed),
+    (1, Main, Call::Commit, CUT, Passed),
+    (1, Main, Call::Find(7), Told::Keys(1), Passed),
+    (1, Main, Call::Lose(false), Told::Done, Passed),
+    (1, Main, Call::Put(1, 9), CUT, LostBefore),
+    (2, Main, Call::Put(1, 6), Told::Done, Passed),
+    (1, Main, Call::Close, Told::Done, Passed),
+    (1, Main, Call::Lose(false), Told::Done, Passed),
+    (1, Main, Call::Remove(3), CUT, LostBefore),
+    (2, Main, Call::Insert(3, 8), Told::Done, Passed),
+    (1, Main, Call::Close, Told::Done, Passed),
+    (1, Main, Call::Lose(false), Told::Done, Passed),
+    (1, Main, Call::RemoveIf(4, 7), CUT, LostBefore),
+    (2, Main, Call::RemoveIf(4, 7), Told::Unchanged, Passed),
+    (1, Main, Call::Close, Told::Done, Passed),
+    (1, Main, Call::Lose(false), Told::Done, Passed),
+    (1, Main, Call::Lock(7), CUT, LostBefore),
+    (1, Main, Call::Close, Told::Done, LostBefore),
+    (1, Main, Call::Lose(false), Told::Done, LostBefore),
+    (1, Main, Call::Find(7), CUT, LostBefore),
+    (1, Main, Call::Close, Told::Done, LostBefore),
+    // A read without a shard session has nothing to lose.
+    (1, Main, Call::Lose(false), Told::Done, LostBefore),
+    (1, Main, Call::Look(7), CUT, LostBefore),
+    (1, Main, Call::Look(7), Told::Keys(1), Passed),
+    // The commit isn't done, and its locks are free.
+    (2, Main, Call::Lose(false), Told::Done, Passed),
+    (2, Main, Call::Commit, CUT, LostBefore),
+    (2, Main, Call::Find(8), Told::Keys(0), Passed),
+    (1, Main, Call::Put(1, 9), Told::Done, Passed),
+];
+
+static LOST_AFTER: [Step; 31] = [
+    (1, Main, Call::Insert(1, 7), Told::Done, Passed),
+    (1, Main, Call::Commit, Told::Done, Passed),
+    (1, Main, Call::Lose(true), Told::Done, Passed),
+    (1, Main, Call::Insert(2, 7), CUT, LostAfter),
+    (2, Main, Call::Insert(2, 8), Told::Done, Passed),
+    (1, Main, Call::Commit, CUT, Passed),
+    (1, Main, Call::Lose(true), Told::Done, Passed),
+    (1, Main, Call::Put(1, 9), CUT, LostAfter),
+    (2, Main, Call::Put(1, 6), Told::Done, Passed),
+    (1, Main, Call::Close, Told::Done, Passed),
+    // The keys of the other session stay its own.
+    (1, Main, Call::Lose(true), Told::Done, Passed),
+    (1, Main, Call::Remove(2), CUT, LostAfter),
+    (1, Pre, Call::Remove(2), Told::Held(2, 2), Passed),
+    (1, Main, Call::Close, Told::Done, Passed),
+    (1, Main, Call::Lose(true), Told::Done, Passed),
+    (1, Pre, Call::RemoveIf(4, 7), CUT, LostAfter),
+    (2, Main, Call::RemoveIf(4, 7), Told::Unchanged, Passed),
+    (1, Main, Call::Lose(true), Told::Done, Passed),
+    (1, Pre, Call::Find(7), CUT, LostAfter),
+    (1, Pre, Call::Close, Told::Done, LostAfter),
+    (1, Main, Call::Lose(true), Told::Done, LostAfter),
+    (1, Post, Call::Lock(7), CUT, LostAfter),
+    (1, Post, Call::Close, Told::Done, LostAfter),
+    (1, Main, Call::Lose(true), Told::Done, LostAfter),
+    (1, Main, Call::Look(7), CUT, LostAfter),
+    (1, Main, Call::Look(7), Told::Keys(1), Passed),
+    // The commit is done, and its locks are free.
+    (2, Main, Call::Lose(true), Told::Done, Passed),
+    (2, Main, Call::Commit, CUT, LostAfter),
+    (9, Main, Call::Look(8), Told::Keys(2), Passed),
+    (9, Main, Call::Look(6), Told::Keys(1), Passed),
+    (1, Main, Call::Put(1, 9), Told::Done, Passed),
+];
+
+static KILLED: [Step; 22] = [
+    (1, Main, Call::Kill, Told::Nobody, Passed),
+    (1, Pre, Call::Insert(1, 7), Told::Done, Passed),
+    (1, Main, Call::Insert(2, 7), Told::Done, Passed),
+    (1, Post, Call::Insert(3, 7), Told::Done, Passed),
+    (2, Main, Call::Insert(4, 7), Told::Done, Passed),
+    (2, Pre, Call::Kill, Told::Nobody, Passed),
+    // The other shard sessions keep their locks.
+    (1, Pre, Call::Kill, Told::Done, Passed),
+    (2, Main, Call::Put(1, 8), Told::Done, Passed),
+    (2, Main, Call::Put(2, 8), Told::Held(1, 2), Passed),
+    // A lost session can't be killed again, nor one that has ended.
+    (1, Pre, Call::Find(7), DROPPED, Passed),
+    (1, Pre, Call::Kill, Told::Nobody, Passed),
+    (1, Pre, Call::Commit, DROPPED, Passed),
+    (1, Pre, Call::Kill, Told::Nobody, Passed),
+    (1, Main, Call::Kill, Told::Done, Passed),
+    (1, Main, Call::Lock(7), DROPPED, Passed),
+    (1, Post, Call::Kill, Told::Done, Passed),
+    (1, Post, Call::Remove(3), DROPPED, Passed),
+    (2, Main, Call::Lock(7), Told::Keys(4), Passed),
+    (1, Main, Call::Close, Told::Done, Passed),
+    (1, Main, Call::Insert(2, 9), Told::Done, Passed),
+    (2, Main, Call::Commit, Told::Done, Passed),
+    (9, Main, Call::Look(7), Told::Keys(4), Passed),
+];
+
 #[test]
 fn a_delete_waits_for_the_insert_of_its_row(rt: HostRuntime) -> Result<(), Fail> {
-    let alloc = rt.alloc();
-    let mut bank = new_bank(alloc)?;
-    let steps = [
-        (1, Group::Main, Call::Insert(1, 2), Told::Done),
-        (2, Group::Main, Call::LockKey(1), Told::Held(1, 1)),
-        (2, Group::Main, Call::LockKey(1), Told::Held(1, 1)),
-        (1, Group::Main, Call::Commit, Told::Done),
-        (2, Group::Main, Call::LockKey(1), Told::Keys(1)),
-        (2, Group::Main, Call::Remove(1), Told::Done),
-        (2, Group::Main, Call::Commit, Told::Done),
-        (1, Group::Main, Call::Look(2), Told::Keys(0)),
-    ];
-    play(&rt, alloc, &mut bank, &steps)
+    play(&rt, rt.alloc(), &DELETE_WAITS)
 }
 
 #[test]
 fn three_sessions_keep_to_their_own_keys(rt: HostRuntime) -> Result<(), Fail> {
-    let alloc = rt.alloc();
-    let mut bank = new_bank(alloc)?;
-    let steps = [
-        (1, Group::Main, Call::Insert(1, 7), Told::Done),
-        (1, Group::Main, Call::Insert(2, 7), Told::Done),
-        (1, Group::Main, Call::Insert(2, 8), Told::Found(7)),
-        (2, Group::Main, Call::Find(7), Told::Keys(0)),
-        (1, Group::Pre, Call::Find(7), Told::Keys(0)),
-        (1, Group::Main, Call::Find(7), Told::Keys(12)),
-        (2, Group::Main, Call::Insert(3, 7), Told::Done),
-        (1, Group::Pre, Call::Lock(7), Told::Held(1, 1)),
-        (2, Group::Main, Call::Put(2, 9), Told::Held(1, 2)),
-        (1, Group::Main, Call::Lock(7), Told::Held(2, 3)),
-        (1, Group::Main, Call::Commit, Told::Done),
-        (9, Group::Main, Call::Look(7), Told::Keys(12)),
-        (2, Group::Main, Call::Lock(7), Told::Keys(123)),
-        (2, Group::Main, Call::RemoveIf(1, 8), Told::Unchanged),
-        (2, Group::Main, Call::RemoveIf(1, 7), Told::Done),
-        (1, Group::Pre, Call::RemoveIf(2, 7), Told::Held(2, 2)),
-        (2, Group::Main, Call::Put(2, 9), Told::Done),
-        (2, Group::Main, Call::Find(9), Told::Keys(2)),
-        (2, Group::Main, Call::Close, Told::Done),
-        (1, Group::Pre, Call::Lock(7), Told::Keys(12)),
-        (1, Group::Pre, Call::Close, Told::Done),
-        (2, Group::Main, Call::Insert(1, 8), Told::Found(7)),
-        (1, Group::Pre, Call::Remove(1), Told::Held(2, 1)),
-    ];
-    play(&rt, alloc, &mut bank, &steps)?;
-    // 20 acts and one commit; the two closes aren't counted.
-    assert_eq!(rt; bank.carried(), 21);
-    assert_eq!(rt; second(alloc, &mut bank, 7)?, Told::Keys(0));
-    Ok(())
+    play(&rt, rt.alloc(), &OWN_KEYS)
+}
+
+#[test]
+fn what_is_lost_before_the_shard_is_not_done(rt: HostRuntime) -> Result<(), Fail> {
+    play(&rt, rt.alloc(), &LOST_BEFORE)
+}
+
+#[test]
+fn what_is_lost_behind_the_shard_is_done(rt: HostRuntime) -> Result<(), Fail> {
+    play(&rt, rt.alloc(), &LOST_AFTER)
+}
+
+#[test]
+fn a_drop_kills_one_session(rt: HostRuntime) -> Result<(), Fail> {
+    play(&rt, rt.alloc(), &KILLED)
 }

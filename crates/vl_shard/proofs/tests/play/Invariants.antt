@@ -3,4 +3,4 @@ use Rattle.vl_catalog.specs.CatalogA.{catalog_a}
 use Rattle.vl_shard.proofs.tests.play.Given as goal
 
 abbrev pub invariant-loop-session : goal.invariant-loop-session
-invariant-loop-session g l = (l.bank.catalog ≡ l.fn.bank.catalog) × (l.bank.catalog ≡ catalog_a)
+invariant-loop-session g l = l.bank.catalog ≡ catalog_a

@@ -1,15 +1,29 @@
-use Rattle.std.proofs.Common.{◌<◌, sym, subst}
+use Rattle.std.proofs.Common.{◌<◌, List, length, length-set, sym, ap, subst, ◌∙◌}
+use Rattle.vl_shard.specs.Parts.{Parts}
+use Rattle.vl_shard.specs.Banks.{BankParts}
+use Rattle.vl_catalog.specs.declared.catalog.Catalog.{Catalog}
 use Rattle.vl_port.specs.Placing.{IsActOn}
-use Rattle.vl_shard.specs.Banks.{BankParts, count_of}
 use Rattle.vl_shard.proofs.Banking.{bank_acted}
 use Rattle.vl_shard.proofs.bank.BankShardPort.act.Goals as goal
 
-pub invariant_of-self : goal.invariant_of-self
-invariant_of-self c =
-    bank_acted c.self.inside.catalog c.self.inside.shards.items c.args.shard c.index_mut.result.now c.act.new.self c.self.invariant (subst (λ (b : BankParts). c.args.shard < count_of b) (sym c.self.view_is) c.requires.shard)
-    c.index_mut.ensures.value c.args.who c.args.act.now c.act.result c.requires.group (subst (λ (b : BankParts). IsActOn b.catalog c.args.shard c.args.act.now) (sym c.self.view_is) c.requires.fits) c.act.ensures.acted
-
 pub returns-clause-serves : goal.returns-clause-serves
-returns-clause-serves c =
-    bank_acted c.self.inside.catalog c.self.inside.shards.items c.args.shard c.index_mut.result.now c.act.new.self c.self.invariant (subst (λ (b : BankParts). c.args.shard < count_of b) (sym c.self.view_is) c.requires.shard)
-    c.index_mut.ensures.value c.args.who c.args.act.now c.act.result c.requires.group (subst (λ (b : BankParts). IsActOn b.catalog c.args.shard c.args.act.now) (sym c.self.view_is) c.requires.fits) c.act.ensures.acted
+returns-clause-serves g c =
+    let shards = ap (λ (b : BankParts g.row.L.Denot). b.shards) c.self.view_is ∙ c.carry-way.ensures.shards in
+    let within = subst (λ (l : List Parts). c.args.shard < length l) (sym shards) c.requires.shard in
+    let catalog = ap (λ (b : BankParts g.row.L.Denot). b.catalog) c.self.view_is ∙ c.carry-way.ensures.catalog in
+    let fits = subst (λ (k : Catalog). IsActOn k c.args.shard c.args.act.now) (sym catalog) c.requires.fits in
+    bank_acted c.self.inside.catalog c.self.inside.shards.items c.args.shard c.index_mut.result.now c.act.new.self within c.index_mut.ensures.value c.self.invariant.serves
+    c.args.who c.args.act.now c.carry-way.result c.act.result c.requires.group fits c.act.ensures.acted
+
+pub invariant_of-self : goal.invariant_of-self
+invariant_of-self g c =
+    let shards = ap (λ (b : BankParts g.row.L.Denot). b.shards) c.self.view_is ∙ c.carry-way.ensures.shards in
+    let within = subst (λ (l : List Parts). c.args.shard < length l) (sym shards) c.requires.shard in
+    let catalog = ap (λ (b : BankParts g.row.L.Denot). b.catalog) c.self.view_is ∙ c.carry-way.ensures.catalog in
+    let fits = subst (λ (k : Catalog). IsActOn k c.args.shard c.args.act.now) (sym catalog) c.requires.fits in
+    record {
+      serves =
+          bank_acted c.self.inside.catalog c.self.inside.shards.items c.args.shard c.index_mut.result.now c.act.new.self within c.index_mut.ensures.value c.self.invariant.serves
+          c.args.who c.args.act.now c.carry-way.result c.act.result c.requires.group fits c.act.ensures.acted;
+      counts = c.self.invariant.counts ∙ sym (length-set c.self.inside.shards.items c.args.shard c.act.new.self);
+    }
