@@ -1,19 +1,18 @@
 -- Which sessions are left after one of them has ended.
-use Rattle.std.proofs.Common.{zero, suc, [], ◌∷◌, ◌≡◌, ◌≢◌, ℕ, ◌+◌, ◌≤◌, ◌⊎◌, inl, inr, true, false, List, length, Option, Some, None, refl, sym, ap, ◌∙◌, subst, arith}
+use Rattle.std.proofs.Common.{zero, suc, [], ◌∷◌, ◌≡◌, ◌≢◌, ℕ, ◌+◌, ◌≤◌, ◌⊎◌, inl, inr, true, List, length, Option, Some, None, refl, sym, ap, ◌∙◌, subst, arith}
 use Rattle.std.specs.Prelude.{Contains, slice_get}
 use Rattle.std.specs.Option.{is_some}
 use Rattle.std.proofs.lemmas.Bool.{cases_Bool}
 use Rattle.std.proofs.lemmas.Option.{get_or_from_slice_get, same_Some, slice_get-get_or, slice_get_within}
 use Rattle.vl_port.specs.declared.tx_state.TxState.{TxState}
-use Rattle.vl_port.specs.declared.who.Who.{Who}
 use Rattle.vl_port.specs.Serving.{Shards}
 use Rattle.vl_port.specs.Transaction.{IsIn, listed, session_of}
 use Rattle.vl_port.specs.View.{View, is_who}
-use Rattle.vl_port.proofs.Asked.{same_or_other}
 use Rattle.vl_port.proofs.Enlisting.{groups_apart}
+use Rattle.vl_port.proofs.Leaving.{same_or_other}
 use Rattle.vl_port.proofs.Naming.{is_who-true}
-use Rattle.vl_commit.specs.Sessions.{AreLeft, HasEnded, Session, sessions}
-use Rattle.vl_commit.specs.Stepping.{start_of}
+use Rattle.vl_commit.specs.Sessions.{AreLeft, HasEnded, Session, sessions, start_of}
+use Rattle.vl_commit.proofs.Endings.{EndsOne}
 use Rattle.vl_commit.proofs.Places.{one_place, place_at, place_of}
 
 -- ---- at first all are left
@@ -38,12 +37,6 @@ all_left tx count seen isin = record {
 }
 
 -- ---- one of them ends
-
--- the session ended on its shard, no other session did, and the other shards show what they did
-pub record EndsOne (old new : Shards) (who : Who) (shard : ℕ) : Type 0 where
-  pub ended : (new shard).sessions who ≡ None
-  pub strangers : (other : Who) → is_who who other ≡ false → (new shard).sessions other ≡ (old shard).sessions other
-  pub others : (s : ℕ) → s ≢ shard → new s ≡ old s
 
 -- a session of the transaction that isn't this one is as it was
 kept_or_same : (tx : TxState) (old new : Shards) (session other : Session) → EndsOne old new (session_of tx session.0) session.1
@@ -100,7 +93,7 @@ past_all [] n none = omega arith
 past_all (x ∷ xs) zero none = absurd (cc none)
 past_all (x ∷ xs) (suc n) none = omega (arith, past_all xs n none)
 
-none_or_open : {X : Type 0} (o : Option X) → (o ≡ None) ⊎ (is_some o ≡ true)
+pub none_or_open : {X : Type 0} (o : Option X) → (o ≡ None) ⊎ (is_some o ≡ true)
 none_or_open None = inl refl
 none_or_open (Some x) = inr refl
 

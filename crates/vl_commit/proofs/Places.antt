@@ -9,8 +9,7 @@ use Rattle.vl_values.specs.declared.group.Group.{Group}
 use Rattle.vl_values.specs.declared.group.Group.TheVariants.{Pre, Main, Post}
 use Rattle.vl_port.specs.declared.tx_state.TxState.{TxState}
 use Rattle.vl_port.specs.Transaction.{listed}
-use Rattle.vl_commit.specs.Sessions.{Session, of_group, sessions}
-use Rattle.vl_commit.specs.Stepping.{start_of}
+use Rattle.vl_commit.specs.Sessions.{Session, of_group, sessions, start_of}
 
 -- ---- lists one behind the other
 

@@ -1,7 +1,8 @@
 -- Sessions that are closed, one after the other.
 use Rattle.std.specs.Prelude.{◌≡◌, ◌==◌, ℕ, zero, suc, ◌+◌, if◌then◌else◌, slice_get, Option, Some, None}
 use Rattle.vl_port.specs.declared.tx_state.TxState.{TxState}
-use Rattle.vl_port.specs.Acting.{closed}
+use Rattle.vl_port.specs.Calls.{IsQuiet, PortView}
+use Rattle.vl_port.specs.Life.{closed}
 use Rattle.vl_port.specs.Serving.{Shards}
 use Rattle.vl_port.specs.Transaction.{session_of}
 use Rattle.vl_commit.specs.Sessions.{Session, sessions}
@@ -16,6 +17,7 @@ abbrev pub with_all_closed : TxState → ℕ → ℕ → Shards → Shards
 with_all_closed tx from zero seen = seen
 with_all_closed tx from (suc count) seen = with_closed tx (slice_get (sessions tx) (from + count)) (with_all_closed tx from count seen)
 
--- each shard shows what it did when they were closed
-abbrev pub AreClosed : TxState → ℕ → ℕ → Shards → Shards → Type 0
-AreClosed tx from count old new = (shard : ℕ) → new shard ≡ with_all_closed tx from count old shard
+-- so many sessions were closed, each shard shows what it did, and nothing was carried or failed
+pub record AreClosed (tx : TxState) (from count : ℕ) (old new : PortView) : Type 0 where
+  pub closed : (shard : ℕ) → new.shards shard ≡ with_all_closed tx from count old.shards shard
+  pub quiet : IsQuiet old new

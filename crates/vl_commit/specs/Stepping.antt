@@ -1,23 +1,20 @@
 -- A step of a commit: one shard session is committed on its shard, or none is left.
-use Rattle.std.specs.Prelude.{◌≡◌, ◌≢◌, ◌<◌, ◌≤◌, ℕ, ◌+◌, ◌-◌, List, [], ◌∷◌, ◌++◌, length, slice_get, Option, Some, None}
-use Rattle.vl_base.specs.Faults.{next_count}
+use Rattle.std.specs.Prelude.{◌≡◌, ◌<◌, ◌≤◌, ℕ, ◌+◌, ◌-◌, List, [], ◌∷◌, ◌++◌, length, slice_get, Option, Some, None}
 use Rattle.vl_values.specs.declared.group.Group.{Group}
 use Rattle.vl_values.specs.declared.group.Group.TheVariants.{Pre, Main, Post}
 use Rattle.vl_port.specs.declared.committed.Committed.{Committed}
 use Rattle.vl_port.specs.declared.committed.Committed.TheVariants as outcomes
 use Rattle.vl_port.specs.declared.tx_state.TxState.{TxState}
-use Rattle.vl_port.specs.declared.who.Who.{Who}
-use Rattle.vl_port.specs.Acting.{Settled}
-use Rattle.vl_port.specs.Asking.{PortView}
-use Rattle.vl_port.specs.Counting.{IsCommitCounted}
-use Rattle.vl_port.specs.Transaction.{listed, session_of}
+use Rattle.vl_port.specs.Calls.{HasCommitted, PortView}
+use Rattle.vl_port.specs.Serving.{Shards}
+use Rattle.vl_port.specs.Transaction.{last_incarnation, listed, session_of}
 use Rattle.vl_commit.specs.declared.commit_told.CommitTold.{CommitTold}
 use Rattle.vl_commit.specs.declared.commit_told.CommitTold.TheVariants as told
 use Rattle.vl_commit.specs.declared.failure.Failure.{Failure}
 use Rattle.vl_commit.specs.declared.failure.Failure.TheVariants as failures
 use Rattle.vl_commit.specs.declared.warning.Warning.{Warning}
 use Rattle.vl_commit.specs.Closing.{AreClosed}
-use Rattle.vl_commit.specs.Sessions.{Session, sessions}
+use Rattle.vl_commit.specs.Sessions.{Session, sessions, start_of}
 
 -- the transaction, how many of its sessions were dealt with, and the commits of post that failed
 pub record Committing : Type 0 where
@@ -33,18 +30,13 @@ due c = slice_get (sessions c.tx) c.at
 abbrev pub HasRoom : Committing → ℕ → Type 0
 HasRoom c capacity = (c.at ≤ length (sessions c.tx)) × (length c.warnings ≤ c.at - (length c.tx.pre + length c.tx.main)) × (c.at < length (sessions c.tx) → length c.tx.post ≤ capacity)
 
--- one commit on one shard, and its outcome. It was carried once, and a fault is told only where its count rose
-pub record HasCommitted (old : PortView) (who : Who) (shard : ℕ) (outcome : Committed) (new : PortView) : Type 0 where
-  pub settled : Settled (old.shards shard) who outcome (new.shards shard)
-  pub others : (other : ℕ) → other ≢ shard → new.shards other ≡ old.shards other
-  pub counted : IsCommitCounted old.faults shard outcome new.faults
-  pub carried : new.carried ≡ next_count old.carried
+-- the shard of the session that is due may go down once more
+abbrev pub IsBelow : Committing → Shards → Type 0
+IsBelow c seen = (session : Session) → due c ≡ Some session → (seen session.1).incarnation < last_incarnation
 
--- closing asks neither link nor disk
-pub record HasClosed (c : Committing) (old new : PortView) : Type 0 where
-  pub closed : AreClosed c.tx (c.at + 1) (length (sessions c.tx) - (c.at + 1)) old.shards new.shards
-  pub calm : new.faults ≡ old.faults
-  pub carried : new.carried ≡ old.carried
+-- no shard goes down more than once
+abbrev pub RisesOnce : Shards → Shards → Type 0
+RisesOnce old new = (shard : ℕ) → (new shard).incarnation ≤ (old shard).incarnation + 1
 
 -- ---- what is left, and what is told
 
@@ -54,24 +46,15 @@ passed c = record c { at = c.at + 1 }
 abbrev pub warned : ℕ → Failure → Committing → Committing
 warned shard why c = record c { at = c.at + 1; warnings = c.warnings ++ record { shard = shard; why = why } ∷ [] }
 
--- another session is due, or all were dealt with; the port is as it was between
-abbrev pub GoesTo : Option Session → Committing → CommitTold → Committing → PortView → PortView → Type 0
-GoesTo None c tells new between port = (tells ≡ told.Ok c.warnings) × (new ≡ record c { warnings = [] }) × (port ≡ between)
-GoesTo (Some session) c tells new between port = (tells ≡ told.More) × (new ≡ c) × (port ≡ between)
-
--- what is told then, and what is left of the commit
+-- what is told then, and what is left of the commit: another session is due, or all were dealt with
 abbrev pub TellsOf : Option Session → Committing → CommitTold → Committing → Type 0
 TellsOf None c tells new = (tells ≡ told.Ok c.warnings) × (new ≡ record c { warnings = [] })
 TellsOf (Some session) c tells new = (tells ≡ told.More) × (new ≡ c)
 
-abbrev pub Goes : Committing → CommitTold → Committing → PortView → PortView → Type 0
-Goes c tells new between port = GoesTo (due c) c tells new between port
-
--- the place of the group's first session
-abbrev pub start_of : TxState → Group → ℕ
-start_of tx Pre = 0
-start_of tx Main = length tx.pre
-start_of tx Post = length tx.pre + length tx.main
+-- and the port is as it was between
+pub record Goes (c : Committing) (tells : CommitTold) (new : Committing) (between port : PortView) : Type 0 where
+  pub says : TellsOf (due c) c tells new
+  pub same : port ≡ between
 
 -- so many commits of the group were answered as done, of how many
 abbrev pub failed : Committing → Session → Failure → CommitTold
@@ -81,7 +64,7 @@ failed c session why = told.Failed session.0 (c.at - start_of c.tx session.0) (l
 pub record EndsAt (old : Committing) (session : Session) (why : Failure) (between : PortView) (tells : CommitTold) (new : Committing) (port : PortView) : Type 0 where
   pub refused : tells ≡ failed old session why
   pub same : new ≡ old
-  pub closed : HasClosed old between port
+  pub closed : AreClosed old.tx (old.at + 1) (length (sessions old.tx) - (old.at + 1)) between port
 
 -- a commit that failed ends the transaction in pre and main, and is a warning in post
 abbrev pub FailsIn : Group → Committing → Session → Failure → PortView → CommitTold → Committing → PortView → Type 0
@@ -108,3 +91,7 @@ pub data CommitStepped (old : Committing) (port : PortView) (tells : CommitTold)
   -- the session that was due was committed on its shard, with this outcome
   Dealt : (session : Session) (outcome : Committed) (between : PortView) → due old ≡ Some session → HasCommitted port (session_of old.tx session.0) session.1 outcome between
       → DealsWith outcome old session between tells new port_new → CommitStepped old port tells new port_new
+
+-- another session is due after one of pre or main only where its commit was answered as done
+abbrev pub IsDoneIn : Committing → PortView → PortView → Type 0
+IsDoneIn old port port_new = (session : Session) → due old ≡ Some session → (session.0 ≡ Post → ⊥) → HasCommitted port (session_of old.tx session.0) session.1 outcomes.Done port_new

@@ -1,18 +1,19 @@
-ghost use Rattle.std.specs.Prelude.{◌≡◌, ◌≢◌, ◌≤◌, ◌<◌, ◌+◌, ◌-◌, ◌++◌, ◌∷◌, ℕ, [], Some, IfErr, IfOk, length};
+ghost use Rattle.std.specs.Prelude.{◌≡◌, ◌≤◌, ◌<◌, ◌+◌, ◌-◌, ◌++◌, ◌∷◌, ℕ, [], Some, IfErr, IfOk, length};
 ghost use Rattle.vl_values.specs.declared.group.Group.TheVariants.{Post as InPost};
-ghost use Rattle.vl_port.specs.declared.who.Who.{Who as AWho};
+ghost use Rattle.vl_port.specs.Calls.{IsSamePort};
+ghost use Rattle.vl_port.specs.Others.{LeavesOthers};
 ghost use Rattle.vl_port.specs.Serving.{Serves};
-ghost use Rattle.vl_port.specs.Transaction.{IsIn, last_tx};
+ghost use Rattle.vl_port.specs.Transaction.{IsIn, last_tx, listed};
 ghost use Rattle.vl_port.specs.View.{View};
 ghost use Rattle.vl_commit.specs.declared.commit_told.CommitTold.TheVariants.{More};
 ghost use Rattle.vl_commit.specs.Closing.{AreClosed};
-ghost use Rattle.vl_commit.specs.Sessions.{AreLeft, HasEnded, sessions};
-ghost use Rattle.vl_commit.specs.Stepping.{CommitStepped, DealsWith, EndsAt, FailsIn, IsOver, TellsOf, due, failed, passed, start_of, warned};
+ghost use Rattle.vl_commit.specs.Sessions.{AreLeft, HasNothingLeft, IsInTurn, Session, sessions, start_of};
+ghost use Rattle.vl_commit.specs.Stepping.{CommitStepped, DealsWith, EndsAt, FailsIn, IsBelow, IsDoneIn, IsOver, RisesOnce, TellsOf, due, failed, passed, warned};
 
 use crate::closing::close_from;
 use crate::commit_told::CommitTold;
 use crate::failure::Failure;
-use crate::sessions::{session_at, session_count};
+use crate::sessions::{first_place, session_at, session_count};
 use crate::warning::Warning;
 use std::alloc::{AllocError, Global};
 use std::marker::Model;
@@ -72,17 +73,20 @@ impl Commit {
     /// Gives the commit up: the sessions that are left are closed, and what was committed stays. It takes
     /// no memory and can't fail.
     pub fn abandon<P: ShardPort>(self, port: &mut P)
-        requires left { AreLeft self.tx self.at (P.count port.old) (P.seen port.old) }
+        requires left { AreLeft self.tx self.at (P.count port.old) (P.told port.old).shards }
         requires number { self.tx.number ≤ last_tx }
-        requires serves { Serves (P.catalog port.old) (P.count port.old) (P.seen port.old) }
-        ensures closed { AreClosed self.tx self.at (length (sessions self.tx) - self.at) (P.seen port.old) (P.seen port.new) }
-        ensures ended { HasEnded self.tx (P.count port.new) (P.seen port.new) }
-        ensures calm { P.faults port.new ≡ P.faults port.old }
-        ensures carried { P.carried port.new ≡ P.carried port.old }
-        ensures serves { Serves (P.catalog port.new) (P.count port.new) (P.seen port.new) }
-        ensures count { P.count port.new ≡ P.count port.old }
-        ensures catalog { P.catalog port.new ≡ P.catalog port.old }
-        ensures foreign { (shard : ℕ) (who : AWho) → who.tx ≢ self.tx.number → (P.seen port.new shard).sessions who ≡ (P.seen port.old shard).sessions who }
+        requires serves { Serves (P.catalog port.old) (P.count port.old) (P.told port.old).shards }
+
+        // Nothing is left of the transaction but what was committed.
+        ensures closed { AreClosed self.tx self.at (length (sessions self.tx) - self.at) (P.told port.old) (P.told port.new) }
+        ensures nothing { HasNothingLeft self.tx (P.count port.new) (P.told port.new).shards }
+
+        // What the next call asks for, and what other transactions have is left to them.
+        ensures serves { Serves (P.catalog port.new) (P.count port.new) (P.told port.new).shards }
+        ensures same_port { IsSamePort (P.catalog port.old) (P.count port.old) (P.catalog port.new) (P.count port.new) }
+        ensures others { LeavesOthers self.tx.number (P.told port.old).shards (P.told port.new).shards }
+        // No shard goes down.
+        ensures incarnations { (shard : ℕ) → ((P.told port.new).shards shard).incarnation ≡ ((P.told port.old).shards shard).incarnation }
     {
         close_from(port, &self.tx, self.at);
     }
@@ -134,19 +138,15 @@ impl Commit {
 
     // Its commit in pre or main failed.
     fn failed(&self, group: Group, shard: ShardNo, why: Failure) -> CommitTold
-        requires { start_of self.now.tx group ≤ self.now.at }
+        requires from { start_of self.now.tx group ≤ self.now.at }
+        requires within { self.now.at < start_of self.now.tx group + length (listed self.now.tx group) }
         ensures { result ≡ failed self.now (group, shard) why }
     {
-        let pre = self.tx.pre.as_slice().len();
-        let main = self.tx.main.as_slice().len();
-        let (first, of) = match group {
-            Group::Pre => (0, pre),
-            Group::Main => (pre, main),
-            Group::Post => (pre + main, self.tx.post.as_slice().len()),
-        };
+        let of = self.tx.listed(group).len();
+        let done = self.at - first_place(&self.tx, group);
         CommitTold::Failed {
             group,
-            done: self.at - first,
+            done: done as u32,
             of,
             shard,
             why,
@@ -162,11 +162,10 @@ impl Commit {
         why: Failure,
     ) -> CommitTold
         requires due { due self.now ≡ Some (group, shard) }
-        requires left { AreLeft self.now.tx (self.now.at + 1) (P.count port.old) (P.seen port.old) }
+        requires left { AreLeft self.now.tx (self.now.at + 1) (P.count port.old) (P.told port.old).shards }
         requires number { self.now.tx.number ≤ last_tx }
-        ensures ends { EndsAt self.now (group, shard) why (record { shards = P.seen port.old; faults = P.faults port.old; carried = P.carried port.old }) result self.now (record { shards = P.seen port.new; faults = P.faults port.new; carried = P.carried port.new }) }
-        ensures count { P.count port.new ≡ P.count port.old }
-        ensures catalog { P.catalog port.new ≡ P.catalog port.old }
+        ensures ends { EndsAt self.now (group, shard) why (P.told port.old) result self.now (P.told port.new) }
+        ensures same_port { IsSamePort (P.catalog port.old) (P.count port.old) (P.catalog port.new) (P.count port.new) }
     {
         let told = self.failed(group, shard, why);
         let within = self.at < session_count(&self.tx);
@@ -184,11 +183,10 @@ impl Commit {
         why: Failure,
     ) -> CommitTold
         requires due { due self.old ≡ Some (group, shard) }
-        requires left { AreLeft self.old.tx (self.old.at + 1) (P.count port.old) (P.seen port.old) }
+        requires left { AreLeft self.old.tx (self.old.at + 1) (P.count port.old) (P.told port.old).shards }
         requires number { self.old.tx.number ≤ last_tx }
-        ensures fails { FailsIn group self.old (group, shard) why (record { shards = P.seen port.old; faults = P.faults port.old; carried = P.carried port.old }) result self.new (record { shards = P.seen port.new; faults = P.faults port.new; carried = P.carried port.new }) }
-        ensures count { P.count port.new ≡ P.count port.old }
-        ensures catalog { P.catalog port.new ≡ P.catalog port.old }
+        ensures fails { FailsIn group self.old (group, shard) why (P.told port.old) result self.new (P.told port.new) }
+        ensures same_port { IsSamePort (P.catalog port.old) (P.count port.old) (P.catalog port.new) (P.count port.new) }
     {
         match group {
             Group::Pre | Group::Main => self.refuse(port, group, shard, why),
@@ -205,11 +203,10 @@ impl Commit {
         outcome: Committed,
     ) -> CommitTold
         requires due { due self.old ≡ Some (group, shard) }
-        requires left { AreLeft self.old.tx (self.old.at + 1) (P.count port.old) (P.seen port.old) }
+        requires left { AreLeft self.old.tx (self.old.at + 1) (P.count port.old) (P.told port.old).shards }
         requires number { self.old.tx.number ≤ last_tx }
-        ensures deals { DealsWith outcome self.old (group, shard) (record { shards = P.seen port.old; faults = P.faults port.old; carried = P.carried port.old }) result self.new (record { shards = P.seen port.new; faults = P.faults port.new; carried = P.carried port.new }) }
-        ensures count { P.count port.new ≡ P.count port.old }
-        ensures catalog { P.catalog port.new ≡ P.catalog port.old }
+        ensures deals { DealsWith outcome self.old (group, shard) (P.told port.old) result self.new (P.told port.new) }
+        ensures same_port { IsSamePort (P.catalog port.old) (P.count port.old) (P.catalog port.new) (P.count port.new) }
     {
         match outcome {
             Committed::Done => self.pass(),
@@ -219,11 +216,11 @@ impl Commit {
     }
 
     fn advance<P: ShardPort>(&mut self, port: &mut P) -> CommitTold
-        requires left { AreLeft self.old.tx self.old.at (P.count port.old) (P.seen port.old) }
+        requires left { AreLeft self.old.tx self.old.at (P.count port.old) (P.told port.old).shards }
         requires number { self.old.tx.number ≤ last_tx }
-        ensures stepped { CommitStepped self.old (record { shards = P.seen port.old; faults = P.faults port.old; carried = P.carried port.old }) result self.new (record { shards = P.seen port.new; faults = P.faults port.new; carried = P.carried port.new }) }
-        ensures count { P.count port.new ≡ P.count port.old }
-        ensures catalog { P.catalog port.new ≡ P.catalog port.old }
+        requires below { IsBelow self.old (P.told port.old).shards }
+        ensures stepped { CommitStepped self.old (P.told port.old) result self.new (P.told port.new) }
+        ensures same_port { IsSamePort (P.catalog port.old) (P.count port.old) (P.catalog port.new) (P.count port.new) }
     {
         let Some((group, shard)) = session_at(&self.tx, self.at) else {
             return self.go();
@@ -235,25 +232,32 @@ impl Commit {
     /// Commits the session that is due on its shard, and tells whether another is due or what the commit
     /// is answered. It takes no memory.
     ///
-    /// After an `Ok` or a `Failed` the commit is over, and no session of the transaction is open.
+    /// After an `Ok` or a `Failed` the commit is over, and nothing of the transaction is left: no session,
+    /// no lock and no pending version.
     pub fn step<P: ShardPort>(&mut self, port: &mut P) -> CommitTold
-        requires left { AreLeft self.old.tx self.old.at (P.count port.old) (P.seen port.old) }
+        requires left { AreLeft self.old.tx self.old.at (P.count port.old) (P.told port.old).shards }
         requires number { self.old.tx.number ≤ last_tx }
-        requires serves { Serves (P.catalog port.old) (P.count port.old) (P.seen port.old) }
+        requires below { IsBelow self.old (P.told port.old).shards }
+        requires serves { Serves (P.catalog port.old) (P.count port.old) (P.told port.old).shards }
 
         // One commit, that of the session that was due, its outcome, and what that means.
-        ensures stepped { CommitStepped self.old (record { shards = P.seen port.old; faults = P.faults port.old; carried = P.carried port.old }) result self.new (record { shards = P.seen port.new; faults = P.faults port.new; carried = P.carried port.new }) }
+        ensures stepped { CommitStepped self.old (P.told port.old) result self.new (P.told port.new) }
+
+        // Its turn has come when all sessions of the groups before its own have ended. Those of pre and
+        // main are passed only as done.
+        ensures turn { (session : Session) → due self.old ≡ Some session → IsInTurn session.0 self.old.tx (P.count port.old) (P.told port.old).shards }
+        ensures done { result ≡ More → IsDoneIn self.old (P.told port.old) (P.told port.new) }
 
         // What the next step asks for; at the end nothing of the transaction is left.
-        ensures left { result ≡ More → AreLeft self.new.tx self.new.at (P.count port.new) (P.seen port.new) }
-        ensures ended { IsOver result → HasEnded self.old.tx (P.count port.new) (P.seen port.new) }
+        ensures left { result ≡ More → AreLeft self.new.tx self.new.at (P.count port.new) (P.told port.new).shards }
+        ensures nothing { IsOver result → HasNothingLeft self.old.tx (P.count port.new) (P.told port.new).shards }
         ensures same { self.new.tx ≡ self.old.tx }
         ensures counted { result ≡ More → (self.new.at ≡ self.old.at + 1) × (self.new.at < length (sessions self.new.tx)) }
-        ensures serves { Serves (P.catalog port.new) (P.count port.new) (P.seen port.new) }
-        ensures count { P.count port.new ≡ P.count port.old }
-        ensures catalog { P.catalog port.new ≡ P.catalog port.old }
-        // No session of another transaction opens or ends.
-        ensures foreign { (shard : ℕ) (who : AWho) → who.tx ≢ self.old.tx.number → (P.seen port.new shard).sessions who ≡ (P.seen port.old shard).sessions who }
+        ensures serves { Serves (P.catalog port.new) (P.count port.new) (P.told port.new).shards }
+        ensures same_port { IsSamePort (P.catalog port.old) (P.count port.old) (P.catalog port.new) (P.count port.new) }
+        // What other transactions have is left to them, unless the shard went down, which it does once at most.
+        ensures others { LeavesOthers self.old.tx.number (P.told port.old).shards (P.told port.new).shards }
+        ensures rises { RisesOnce (P.told port.old).shards (P.told port.new).shards }
     {
         self.advance(port)
     }

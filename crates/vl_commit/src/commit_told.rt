@@ -9,7 +9,7 @@ use vl_values::items::Items;
 pub enum CommitTold {
     /// A session was committed, or its commit in post failed, and another session is due.
     More,
-    /// All sessions were dealt with; the commits of post that failed.
+    /// All sessions were dealt with; the commits of post that failed, in their order.
     Ok {
         warnings: Items<Warning>,
     },
@@ -17,8 +17,8 @@ pub enum CommitTold {
     /// closed. So many commits of the group were answered as done before, of how many.
     Failed {
         group: Group,
-        done: usize,
-        of: usize,
+        done: u32,
+        of: u32,
         shard: ShardNo,
         why: Failure,
     },

@@ -1,5 +1,5 @@
 ghost use Rattle.std.specs.Prelude.{◌≡◌, length, slice_get};
-ghost use Rattle.vl_commit.specs.Sessions.{sessions};
+ghost use Rattle.vl_commit.specs.Sessions.{sessions, start_of};
 
 use vl_port::tx_state::TxState;
 use vl_values::ShardNo;
@@ -10,6 +10,17 @@ pub(crate) fn session_count(tx: &TxState) -> usize
     ensures { result ≡ length (sessions tx.now) }
 {
     tx.pre.as_slice().len() + tx.main.as_slice().len() + tx.post.as_slice().len()
+}
+
+/// The place of the group's first session.
+pub(crate) fn first_place(tx: &TxState, group: Group) -> usize
+    ensures { result ≡ start_of tx.now group }
+{
+    match group {
+        Group::Pre => 0,
+        Group::Main => tx.pre.as_slice().len(),
+        Group::Post => tx.pre.as_slice().len() + tx.main.as_slice().len(),
+    }
 }
 
 /// The session at this place, in the order in which they are committed.
