@@ -123,6 +123,7 @@ inserts catalog plan row checked covering fits among =
     let key_is : key_in catalog plan.table row ≡ key_of plan.table fits.table row = ap (λ (o : Option Table). option_map_or (λ (table : Table). key_of plan.table table row) o (record { table = plan.table; pk = [] })) fits.is_table in
     let whole : IsPlacedRow catalog placed.0 (key_of plan.table fits.table row) row = record { table = fits.table; is_table = fits.is_table; fits = fits.rows row among; keyed = refl; placed = placed.1 } in
     record {
+      group = refl;
       shard = subst (λ (s : ℕ). s < shard_count catalog.rings) (sym shard_is) (placed_within catalog plan.table fits.table row placed.0 checked covering fits.is_table placed.1);
       write = tt;
       fits = subst (λ (s : ℕ). IsPlacedRow catalog s (key_in catalog plan.table row) row) (sym shard_is) (subst (λ (k : Key). IsPlacedRow catalog placed.0 k row) (sym key_is) whole);

@@ -4,6 +4,8 @@ use Rattle.std.specs.Prelude.{Contains, slice_get}
 use Rattle.std.specs.Option.{option_map, option_or}
 use Rattle.std.proofs.lemmas.Option.{get_or_from_slice_get, same_Some, slice_get_within}
 use Rattle.vl_catalog.specs.declared.catalog.Catalog.{Catalog}
+use Rattle.vl_values.specs.declared.group.Group.{Group}
+use Rattle.vl_values.specs.declared.group.Group.TheVariants.{Main}
 use Rattle.vl_port.specs.declared.act.Act.{Act}
 use Rattle.vl_port.specs.declared.act.Act.TheVariants.{Insert, Put, Remove, RemoveIf, Find}
 use Rattle.vl_port.specs.declared.answer.Answer.TheVariants.{Done, Rows, Unchanged}
@@ -18,21 +20,21 @@ use Rattle.vl_exec.specs.Making.{IsMade, IsSearch, IsSearchIn, IsWrite}
 use Rattle.vl_exec.specs.Progress.{Progress, due, read_due_in}
 
 pub data IsDue (p : Progress) (action : Action) : Type 0 where
-  Reads : (search : Search) → p.search ≡ Some search → slice_get search.shards search.read ≡ Some action.shard → action.act ≡ search.find → IsDue p action
+  Reads : (search : Search) → p.search ≡ Some search → slice_get search.shards search.read ≡ Some action.shard → action.act ≡ search.find → action.group ≡ Main → IsDue p action
   Writes : slice_get p.writes p.done ≡ Some action → IsDue p action
 
-by_shard : (o : Option ℕ) (find : Act) (w : Option Action) (action : Action) → option_or (option_map (λ (shard : ℕ). record { shard = shard; act = find; old = None }) o) w ≡ Some action
-    → ((o ≡ Some action.shard) × (action.act ≡ find)) ⊎ (w ≡ Some action)
+by_shard : (o : Option ℕ) (find : Act) (w : Option Action) (action : Action) → option_or (option_map (λ (shard : ℕ). record { group = Main; shard = shard; act = find; old = None }) o) w ≡ Some action
+    → ((o ≡ Some action.shard) × (action.act ≡ find) × (action.group ≡ Main)) ⊎ (w ≡ Some action)
 by_shard None find w action e = inr e
 by_shard (Some shard) find w action e =
-    let same = same_Some (record { shard = shard; act = find; old = None }) action e in
-    inl (ap (λ (d : Action). Some d.shard) same, sym (ap (λ (d : Action). d.act) same))
+    let same = same_Some (record { group = Main; shard = shard; act = find; old = None }) action e in
+    inl (ap (λ (d : Action). Some d.shard) same, sym (ap (λ (d : Action). d.act) same), sym (ap (λ (d : Action). d.group) same))
 
 by_search : (p : Progress) (o : Option Search) (action : Action) → p.search ≡ o → option_or (read_due_in o) (slice_get p.writes p.done) ≡ Some action → IsDue p action
 by_search p None action is e = Writes e
 by_search p (Some search) action is e =
     elim (by_shard (slice_get search.shards search.read) search.find (slice_get p.writes p.done) action e) [
-      | inl at ↦ Reads search is at.0 at.1
+      | inl at ↦ Reads search is at.0 at.1 at.2
       | inr at ↦ Writes at
     ]
 
@@ -50,19 +52,24 @@ pub search_is : (catalog : Catalog) (count : ℕ) (p : Progress) (search : Searc
 search_is catalog count p search made is = subst (λ (o : Option Search). IsSearchIn catalog count o p.writes) is made
 
 pub due_fits : (catalog : Catalog) (count limit : ℕ) (p : Progress) (action : Action) → IsMade catalog count limit p → IsDue p action → (action.shard < count) × IsActOn catalog action.shard action.act
-due_fits catalog count limit p action made (Reads search is at same) =
+due_fits catalog count limit p action made (Reads search is at same main) =
     let s = search_is catalog count p search made.search is in
     (s.within action.shard (contains_at search.shards search.read action.shard at), subst (λ (a : Act). IsActOn catalog action.shard a) (sym (same ∙ s.find)) s.fits)
 due_fits catalog count limit p action made (Writes at) =
     let d = made.writes action (contains_at p.writes p.done action at) in
     (d.shard, d.fits)
 
+-- it goes by the main session
+pub due_main : (catalog : Catalog) (count limit : ℕ) (p : Progress) (action : Action) → IsMade catalog count limit p → IsDue p action → action.group ≡ Main
+due_main catalog count limit p action made (Reads search is at same main) = main
+due_main catalog count limit p action made (Writes at) = (made.writes action (contains_at p.writes p.done action at)).group
+
 -- ---- which answers it may get
 
 -- `Done` is told of a write alone
 pub done_writes : (catalog : Catalog) (count limit : ℕ) (p : Progress) (action : Action) (who : Who) (old new : View) → IsMade catalog count limit p → IsDue p action → Acted old who action.act Done new
     → slice_get p.writes p.done ≡ Some action
-done_writes catalog count limit p action who old new made (Reads search is at same) acted =
+done_writes catalog count limit p action who old new made (Reads search is at same main) acted =
     let s = search_is catalog count p search made.search is in
     absurd ((subst (λ (a : Act). Acted old who a Done new) (same ∙ s.find) acted).1)
 done_writes catalog count limit p action who old new made (Writes at) acted = at
@@ -75,7 +82,7 @@ no_nothing view who (RemoveIf key column value) write nothing = write
 no_nothing view who (Find pred locking) write nothing = write
 
 pub never_unchanged : (catalog : Catalog) (count limit : ℕ) (p : Progress) (action : Action) (who : Who) (old new : View) → IsMade catalog count limit p → IsDue p action → Acted old who action.act Unchanged new → ⊥
-never_unchanged catalog count limit p action who old new made (Reads search is at same) acted =
+never_unchanged catalog count limit p action who old new made (Reads search is at same main) acted =
     let s = search_is catalog count p search made.search is in
     (subst (λ (a : Act). Acted old who a Unchanged new) (same ∙ s.find) acted).1
 never_unchanged catalog count limit p action who old new made (Writes at) acted =
@@ -97,22 +104,31 @@ pub record IsReadDue (p : Progress) (action : Action) : Type 0 where
 -- rows are given by a read alone
 pub rows_read : (catalog : Catalog) (count limit : ℕ) (p : Progress) (action : Action) (who : Who) (old new : View) (rows : List (Key × Values)) → IsMade catalog count limit p → IsDue p action
     → Acted old who action.act (Rows rows) new → IsReadDue p action
-rows_read catalog count limit p action who old new rows made (Reads search is at same) acted = record { search = search; is = is; at = at; same = same }
+rows_read catalog count limit p action who old new rows made (Reads search is at same main) acted = record { search = search; is = is; at = at; same = same }
 rows_read catalog count limit p action who old new rows made (Writes at) acted =
     absurd (no_rows old who action.act rows (made.writes action (contains_at p.writes p.done action at)).write acted.1)
 
 -- ---- the action by its parts
 
-pub record IsAt (o : Option Action) (shard : ℕ) (act : Act) : Type 0 where
+pub record IsAt (o : Option Action) (group : Group) (shard : ℕ) (act : Act) : Type 0 where
   pub action : Action
   pub is : o ≡ Some action
+  pub group_is : action.group ≡ group
   pub shard_is : action.shard ≡ shard
   pub act_is : action.act ≡ act
 
-pub due_at : (o : Option Action) (shard : ℕ) (act : Act) → option_map (λ (a : Action). a.shard) o ≡ Some shard → option_map (λ (a : Action). a.act) o ≡ Some act → IsAt o shard act
-due_at None shard act s a = absurd (cc)
-due_at (Some action) shard act s a = record { action = action; is = refl; shard_is = same_Some action.shard shard s; act_is = same_Some action.act act a }
+pub due_at : (o : Option Action) (group : Group) (shard : ℕ) (act : Act) → option_map {U = Group × ℕ} (λ (a : Action). (a.group, a.shard)) o ≡ Some (group, shard) → option_map (λ (a : Action). a.act) o ≡ Some act → IsAt o group shard act
+due_at None group shard act s a = absurd (cc)
+due_at (Some action) group shard act s a =
+    let session = same_Some (action.group, action.shard) (group, shard) s in
+    record {
+      action = action;
+      is = refl;
+      group_is = ap (λ (it : Group × ℕ). it.0) session;
+      shard_is = ap (λ (it : Group × ℕ). it.1) session;
+      act_is = same_Some action.act act a;
+    }
 
-pub none_due : (o : Option Action) → option_map (λ (a : Action). a.shard) o ≡ None → o ≡ None
+pub none_due : (o : Option Action) → option_map {U = Group × ℕ} (λ (a : Action). (a.group, a.shard)) o ≡ None → o ≡ None
 none_due None e = refl
 none_due (Some action) e = absurd (cc)

@@ -8,6 +8,7 @@ use Rattle.std.specs.declared.cmp.Ordering.TheVariants.{Less}
 use Rattle.std.specs.Ordering.{is_eq, is_lt}
 use Rattle.std.proofs.lemmas.List.Elements.{Contains-append_cases}
 use Rattle.std.proofs.lemmas.Option.{same_Some}
+use Rattle.vl_values.specs.declared.group.Group.TheVariants.{Main}
 use Rattle.vl_values.specs.declared.key.Key.{Key}
 use Rattle.vl_values.specs.declared.value.Value.{Value}
 use Rattle.vl_values.specs.Key.{key_cmp}
@@ -50,13 +51,13 @@ pub record IsWriteOf (shard : ℕ) (key : Key) (action : Action) : Type 0 where
 along : {X : Type 0} (P : X → Type 0) (x y : X) → Some x ≡ Some y → P x → P y
 along P x y e p = subst P (same_Some x y e) p
 
-put_is : (shard : ℕ) (key : Key) (old new : List Value) (b : Bool) (action : Action) → cond b None (Some (record { shard = shard; act = Put key new; old = Some old })) ≡ Some action
-    → record { shard = shard; act = Put key new; old = Some old } ≡ action
+put_is : (shard : ℕ) (key : Key) (old new : List Value) (b : Bool) (action : Action) → cond b None (Some (record { group = Main; shard = shard; act = Put key new; old = Some old })) ≡ Some action
+    → record { group = Main; shard = shard; act = Put key new; old = Some old } ≡ action
 put_is shard key old new true action e = absurd (cc)
-put_is shard key old new false action e = same_Some (record { shard = shard; act = Put key new; old = Some old }) action e
+put_is shard key old new false action e = same_Some (record { group = Main; shard = shard; act = Put key new; old = Some old }) action e
 
 pub write_is : (change : RowChange) (shard : ℕ) (found : Key × List Value) (action : Action) → write_of change shard found ≡ Some action → IsWriteOf shard found.0 action
-write_is Remove shard found action e = along (IsWriteOf shard found.0) (record { shard = shard; act = RemoveAct found.0; old = Some found.1 }) action e (record { shard_is = refl; key_is = refl; write = tt })
+write_is Remove shard found action e = along (IsWriteOf shard found.0) (record { group = Main; shard = shard; act = RemoveAct found.0; old = Some found.1 }) action e (record { shard_is = refl; key_is = refl; write = tt })
 write_is (Set settings) shard found action e =
     subst (IsWriteOf shard found.0) (put_is shard found.0 found.1 (with_settings settings found.1) (is_eq (row_cmp (with_settings settings found.1) found.1)) action e)
     (record { shard_is = refl; key_is = refl; write = tt })
@@ -64,10 +65,11 @@ write_is (Set settings) shard found action e =
 pub write_fits : (catalog : Catalog) (count number : ℕ) (change : RowChange) (shard : ℕ) (found : Key × List Value) (action : Action) → Checked catalog → shard < count → IsChangeOf catalog number change
     → found.0.table ≡ number → IsPlacedRow catalog shard found.0 found.1 → write_of change shard found ≡ Some action → IsAction catalog count action
 write_fits catalog count number Remove shard found action checked within changes of_table placed e =
-    along (IsAction catalog count) (record { shard = shard; act = RemoveAct found.0; old = Some found.1 }) action e (record { shard = within; write = tt; fits = (found.1, placed) })
+    along (IsAction catalog count) (record { group = Main; shard = shard; act = RemoveAct found.0; old = Some found.1 }) action e (record { group = refl; shard = within; write = tt; fits = (found.1, placed) })
 write_fits catalog count number (Set settings) shard found action checked within changes of_table placed e =
     subst (IsAction catalog count) (put_is shard found.0 found.1 (with_settings settings found.1) (is_eq (row_cmp (with_settings settings found.1) found.1)) action e)
     (record {
+      group = refl;
       shard = within;
       write = tt;
       fits = all_set catalog shard found.0 settings found.1 checked placed (λ table setting at among. changes table setting (subst (λ (n : ℕ). slice_get catalog.tables n ≡ Some table) of_table at) among);

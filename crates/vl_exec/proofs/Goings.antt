@@ -14,6 +14,7 @@ use Rattle.vl_exec.specs.declared.program_told.ProgramTold.{ProgramTold}
 use Rattle.vl_exec.specs.declared.search.Search.{Search}
 use Rattle.vl_exec.specs.Answering.{Answered, IsWell, OrNoMemory, WaitsOn, refused}
 use Rattle.vl_exec.specs.Progress.{IsNearer, Progress, acts_done, has_read, with_rows, with_try, with_write}
+use Rattle.vl_exec.proofs.Reached.{IsOfAct}
 
 pub data Went (old : Progress) (action : Action) (limit : ℕ) (new : Progress) : Answer → Type 0 where
   Wrote : new ≡ with_write old → Went old action limit new Done
@@ -42,7 +43,13 @@ went catalog tx old action (Limit what count) tells new h going = ended tells _ 
 went catalog tx old action (Lost why) tells new h going = ended tells _ h (λ it. it) going
 went catalog tx old action Device tells new h going = ended tells _ h (λ it. it) going
 went catalog tx old action Unchanged tells new h going = absurd h
-went catalog tx old action Memory tells new h going = absurd h
+went catalog tx old action Memory tells new h going = ended tells _ h (λ it. it) going
+
+-- the answers after which it goes on are those of an act that was done
+pub went_of_act : (old new : Progress) (action : Action) (limit : ℕ) (answer : Answer) → Went old action limit new answer → IsOfAct answer
+went_of_act old new action limit answer (Wrote is) = tt
+went_of_act old new action limit answer (Read rows is) = tt
+went_of_act old new action limit answer (Waited by key is below) = tt
 
 -- ---- nearer to the end, by one action
 

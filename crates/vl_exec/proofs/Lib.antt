@@ -6,6 +6,7 @@ pub mod Gathering
 pub mod Goings
 pub mod Keeping
 pub mod Owing
+pub mod Reached
 pub mod Settings
 pub mod Staged
 pub mod Steps

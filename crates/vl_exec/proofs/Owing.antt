@@ -17,22 +17,23 @@ use Rattle.vl_port.specs.declared.tx_state.TxState.{TxState}
 use Rattle.vl_port.specs.declared.who.Who.{Who}
 use Rattle.vl_port.specs.Acting.{taken, written}
 use Rattle.vl_port.specs.Holding.{needs}
+use Rattle.vl_port.specs.Life.{Reaches}
 use Rattle.vl_port.specs.Reading.{is_match, IsRead}
 use Rattle.vl_port.specs.Serving.{Shards}
 use Rattle.vl_port.specs.Transaction.{session_of}
 use Rattle.vl_port.specs.View.{View, Values, changed_to, is_who, standing, version_for}
-use Rattle.vl_port.proofs.Asked.{same_or_other}
+use Rattle.vl_port.proofs.Leaving.{same_or_other}
 use Rattle.vl_exec.specs.declared.action.Action.{Action}
 use Rattle.vl_exec.specs.declared.search.Search.{Search}
 use Rattle.vl_exec.specs.Changes.{write_of, writes_of}
 use Rattle.vl_exec.specs.Effects.{AreOwed, AreOwedBy, IsOwed}
 use Rattle.vl_exec.specs.Making.{IsMade, IsSearch, IsWrite, written_key}
 use Rattle.vl_exec.specs.Progress.{Progress, has_read, with_try, with_write}
-use Rattle.vl_port.specs.Asking.{ActsOn}
 use Rattle.vl_exec.proofs.Dues.{IsDue, contains_at, done_writes, rows_read, search_is}
 use Rattle.vl_exec.proofs.Finding.{write_from, write_is}
 use Rattle.vl_exec.proofs.Goings.{Read, Waited, Went, Wrote}
 use Rattle.vl_exec.proofs.Keeping.{read_given, with_rows_is}
+use Rattle.vl_exec.proofs.Reached.{IsDone, reached_same, still_holds}
 use Rattle.vl_exec.proofs.Writings.{front_at, key_of_write, key_or_not, ordered_at, pending_other, precedes_apart}
 
 -- ---- one shard
@@ -52,10 +53,6 @@ owed_on search old new who action owed stays = record {
   held = stays.holder owed.held;
 }
 
-pub still_holds : (b : Bool) (who : Who) (o : Option Who) → o ≡ Some who → cond b (Some who) o ≡ Some who
-still_holds true who o h = refl
-still_holds false who o h = h
-
 taken_own : (view : View) (who : Who) (act : Act) (key : Key) → StaysOwn view (taken who act view) who key
 taken_own view who act key = record { pending = refl; committed = refl; holder = λ h. still_holds (needs view act key) who (view.holder key) h }
 
@@ -66,9 +63,17 @@ written_own view who act own key write is apart = record {
   holder = λ h. still_holds (needs view act key) who (view.holder key) h;
 }
 
+-- a shard on which the session holds a key is up
+abbrev pub IsUpFor : View → Who → Type 0
+IsUpFor view who = (key : Key) → view.holder key ≡ Some who → view.up ≡ true
+
+-- so it was reached as it was
+from_there : (old there new : View) (who : Who) (key : Key) → IsUpFor old who → Reaches old there → old.holder key ≡ Some who → StaysOwn there new who key → StaysOwn old new who key
+from_there old there new who key up reached held stays = subst (λ (v : View). StaysOwn v new who key) (reached_same old there reached (up key held)) stays
+
 -- ---- all shards
 
-own_on : (old new : Shards) (who : Who) (action : Action) (answer : Answer) (key : Key) (s : ℕ) → ActsOn old who action.shard action.act answer new → (s ≡ action.shard → StaysOwn (old action.shard) (new action.shard) who key)
+own_on : (old new : Shards) (who : Who) (action : Action) (answer : Answer) (key : Key) (s : ℕ) → IsDone old new who action.shard action.act answer → (s ≡ action.shard → StaysOwn (old action.shard) (new action.shard) who key)
     → (s ≡ action.shard) ⊎ (s ≢ action.shard) → StaysOwn (old s) (new s) who key
 own_on old new who action answer key s acts here (inl at) = subst (λ (n : ℕ). StaysOwn (old n) (new n) who key) (sym at) (here at)
 own_on old new who action answer key s acts here (inr other) = record {
@@ -93,20 +98,21 @@ owed_key : (search : Search) (view : View) (who : Who) (action : Action) → (ow
 owed_key search view who action owed = (write_is search.change action.shard (owed.key, owed.row) action owed.is_write).key_is
 
 write_owes : (catalog : Catalog) (count : ℕ) (p : Progress) (search : Search) (action : Action) (who : Who) (shard : ℕ) (old new : Shards) → IsSearch catalog count search p.writes → IsWrite action.act → slice_get p.writes p.done ≡ Some action
-    → ActsOn old who action.shard action.act Done new → Owe search p.writes p.done old who shard → Owe search p.writes (p.done + 1) new who shard
-write_owes catalog count p search action who shard old new is write at acts owe n other from at_other on =
+    → IsUpFor (old action.shard) who → IsDone old new who action.shard action.act Done → Owe search p.writes p.done old who shard → Owe search p.writes (p.done + 1) new who shard
+write_owes catalog count p search action who shard old new is write at up acts owe n other from at_other on =
     let owed = there search old who shard other on (owe n other (omega (arith, from)) at_other on) in
     let own = key_of_write action.act write in
     let key_is = owed_key search (old other.shard) who other owed in
     here search new who shard other on
     (owed_on search (old other.shard) (new other.shard) who other owed
     (own_on old new who action Done owed.key other.shard acts
-    (λ same. subst (λ (v : View). StaysOwn (old action.shard) v who owed.key) (sym acts.acted.2)
-    (written_own (old action.shard) who action.act own.0 owed.key write own.1
+    (λ same. from_there (old action.shard) acts.there (new action.shard) who owed.key up acts.reached (subst (λ (s : ℕ). (old s).holder owed.key ≡ Some who) same owed.held)
+    (subst (λ (v : View). StaysOwn acts.there v who owed.key) (sym acts.acted.2)
+    (written_own acts.there who action.act own.0 owed.key write own.1
     (elim (key_or_not own.0 owed.key) [
       | inl key ↦ absurd (precedes_apart action other own.0 owed.key (ordered_at p.writes p.done n action other is.ordered (omega (arith, from)) at at_other) own.1 key_is (sym same) (is_key-true own.0 owed.key key))
       | inr apart ↦ apart
-    ])))
+    ]))))
     (same_or_other other.shard action.shard)))
 
 -- ---- a read
@@ -162,20 +168,23 @@ before_or_behind : (n k : ℕ) → (n < k) ⊎ (k ≤ n)
 before_or_behind n k = grind arith
 
 read_owes : (catalog : Catalog) (count : ℕ) (p : Progress) (search : Search) (action : Action) (who : Who) (rows : List (Key × Values)) (shard : ℕ) (old new : Shards) → IsSearch catalog count search p.writes → action.act ≡ search.find
-    → ActsOn old who action.shard action.act (Rows rows) new → Owe search p.writes p.done old who shard → Owe (has_read (length rows) search) (p.writes ++ writes_of search.change action.shard rows) p.done new who shard
-read_owes catalog count p search action who rows shard old new is same acts owe n other from at_other on =
+    → IsUpFor (old action.shard) who → IsDone old new who action.shard action.act (Rows rows) → Owe search p.writes p.done old who shard → Owe (has_read (length rows) search) (p.writes ++ writes_of search.change action.shard rows) p.done new who shard
+read_owes catalog count p search action who rows shard old new is same up acts owe n other from at_other on =
     here (has_read (length rows) search) new who shard other on
     (elim (before_or_behind n (length p.writes)) [
       | inl within ↦
           let owed = there search old who shard other on (owe n other from (front_at p.writes (writes_of search.change action.shard rows) n other within at_other) on) in
           with_count (owed_on search (old other.shard) (new other.shard) who other owed
-          (own_on old new who action (Rows rows) owed.key other.shard acts (λ at. subst (λ (v : View). StaysOwn (old action.shard) v who owed.key) (sym acts.acted.2) (taken_own (old action.shard) who action.act owed.key)) (same_or_other other.shard action.shard)))
+          (own_on old new who action (Rows rows) owed.key other.shard acts
+          (λ at. from_there (old action.shard) acts.there (new action.shard) who owed.key up acts.reached (subst (λ (s : ℕ). (old s).holder owed.key ≡ Some who) at owed.held)
+          (subst (λ (v : View). StaysOwn acts.there v who owed.key) (sym acts.acted.2) (taken_own acts.there who action.act owed.key)))
+          (same_or_other other.shard action.shard)))
       | inr behind ↦
           let is_find = same ∙ is.find in
           let found =
-          found_owed search (old action.shard) who is.pred rows action.shard other (read_given catalog count search (old action.shard) (new action.shard) who action.act rows p.writes is same acts.acted)
+          found_owed search acts.there who is.pred rows action.shard other (read_given catalog count search acts.there (new action.shard) who action.act rows p.writes is same acts.acted)
           (back_at p.writes (writes_of search.change action.shard rows) n other behind at_other) (length rows) in
-          let after : new action.shard ≡ taken who (Find is.pred true) (old action.shard) = acts.acted.2 ∙ ap (λ (a : Act). taken who a (old action.shard)) is_find in
+          let after : new action.shard ≡ taken who (Find is.pred true) acts.there = acts.acted.2 ∙ ap (λ (a : Act). taken who a acts.there) is_find in
           subst (λ (s : ℕ). IsOwed (has_read (length rows) search) (new s) who other) (sym found.0) (subst (λ (v : View). IsOwed (has_read (length rows) search) v who other) (sym after) found.1)
     ])
   where
@@ -184,35 +193,36 @@ read_owes catalog count p search action who rows shard old new is same acts owe 
 
 -- ---- the whole
 
-try_owes : (search : Search) (writes : List Action) (done : ℕ) (action : Action) (who : Who) (answer : Answer) (shard : ℕ) (old new : Shards) → ((key : Key) → StaysOwn (old action.shard) (new action.shard) who key) → ActsOn old who action.shard action.act answer new
+try_owes : (search : Search) (writes : List Action) (done : ℕ) (action : Action) (who : Who) (answer : Answer) (shard : ℕ) (old new : Shards) → ((key : Key) → (old action.shard).holder key ≡ Some who → StaysOwn (old action.shard) (new action.shard) who key) → IsDone old new who action.shard action.act answer
     → Owe search writes done old who shard → Owe search writes done new who shard
 try_owes search writes done action who answer shard old new stays acts owe n other from at on =
     let owed = there search old who shard other on (owe n other from at on) in
     here search new who shard other on
-    (owed_on search (old other.shard) (new other.shard) who other owed (own_on old new who action answer owed.key other.shard acts (λ same. stays owed.key) (same_or_other other.shard action.shard)))
+    (owed_on search (old other.shard) (new other.shard) who other owed (own_on old new who action answer owed.key other.shard acts (λ same. stays owed.key (subst (λ (s : ℕ). (old s).holder owed.key ≡ Some who) same owed.held)) (same_or_other other.shard action.shard)))
 
 pub went_owes : (catalog : Catalog) (count limit : ℕ) (p new : Progress) (action : Action) (answer : Answer) (tx : TxState) (shard : ℕ) (old after : Shards) (o : Option Search) → p.search ≡ o → IsMade catalog count limit p → IsDue p action
-    → ActsOn old (session_of tx Main) action.shard action.act answer after → Went p action limit new answer → AreOwedBy old tx o p shard → AreOwed after tx new shard
-went_owes catalog count limit p new action answer tx shard old after None none made is_due acts (Wrote is) owe =
+    → IsUpFor (old action.shard) (session_of tx Main) → IsDone old after (session_of tx Main) action.shard action.act answer → Went p action limit new answer → AreOwedBy old tx o p shard → AreOwed after tx new shard
+went_owes catalog count limit p new action answer tx shard old after None none made is_due up acts (Wrote is) owe =
     subst (λ (q : Progress). AreOwed after tx q shard) (sym is) (subst (λ (o : Option Search). AreOwedBy after tx o (with_write p) shard) (sym none) tt)
-went_owes catalog count limit p new action answer tx shard old after (Some search) some made is_due acts (Wrote is) owe =
-    let at = done_writes catalog count limit p action (session_of tx Main) (old action.shard) (after action.shard) made is_due acts.acted in
+went_owes catalog count limit p new action answer tx shard old after (Some search) some made is_due up acts (Wrote is) owe =
+    let at = done_writes catalog count limit p action (session_of tx Main) acts.there (after action.shard) made is_due acts.acted in
     subst (λ (q : Progress). AreOwed after tx q shard) (sym is)
     (subst (λ (o : Option Search). AreOwedBy after tx o (with_write p) shard) (sym some)
-    (write_owes catalog count p search action (session_of tx Main) shard old after (search_is catalog count p search made.search some) (made.writes action (contains_at p.writes p.done action at)).write at acts owe))
-went_owes catalog count limit p new action answer tx shard old after None none made is_due acts (Read rows is) owe =
-    let due = rows_read catalog count limit p action (session_of tx Main) (old action.shard) (after action.shard) rows made is_due acts.acted in
+    (write_owes catalog count p search action (session_of tx Main) shard old after (search_is catalog count p search made.search some) (made.writes action (contains_at p.writes p.done action at)).write at up acts owe))
+went_owes catalog count limit p new action answer tx shard old after None none made is_due up acts (Read rows is) owe =
+    let due = rows_read catalog count limit p action (session_of tx Main) acts.there (after action.shard) rows made is_due acts.acted in
     absurd (cc (none, due.is))
-went_owes catalog count limit p new action answer tx shard old after (Some search) some made is_due acts (Read rows is) owe =
-    let due = rows_read catalog count limit p action (session_of tx Main) (old action.shard) (after action.shard) rows made is_due acts.acted in
+went_owes catalog count limit p new action answer tx shard old after (Some search) some made is_due up acts (Read rows is) owe =
+    let due = rows_read catalog count limit p action (session_of tx Main) acts.there (after action.shard) rows made is_due acts.acted in
     let same : due.search ≡ search = same_Some due.search search (sym due.is ∙ some) in
     let s = search_is catalog count p search made.search some in
     subst (λ (q : Progress). AreOwed after tx q shard) (sym (is ∙ with_rows_is p search action.shard rows p.search some))
-    (read_owes catalog count p search action (session_of tx Main) rows shard old after s (due.same ∙ ap (λ (it : Search). it.find) same) acts owe)
-went_owes catalog count limit p new action answer tx shard old after None none made is_due acts (Waited by key is below) owe =
+    (read_owes catalog count p search action (session_of tx Main) rows shard old after s (due.same ∙ ap (λ (it : Search). it.find) same) up acts owe)
+went_owes catalog count limit p new action answer tx shard old after None none made is_due up acts (Waited by key is below) owe =
     subst (λ (q : Progress). AreOwed after tx q shard) (sym is) (subst (λ (o : Option Search). AreOwedBy after tx o (with_try p) shard) (sym none) tt)
-went_owes catalog count limit p new action answer tx shard old after (Some search) some made is_due acts (Waited by key is below) owe =
+went_owes catalog count limit p new action answer tx shard old after (Some search) some made is_due up acts (Waited by key is below) owe =
     subst (λ (q : Progress). AreOwed after tx q shard) (sym is)
     (subst (λ (o : Option Search). AreOwedBy after tx o (with_try p) shard) (sym some)
     (try_owes search p.writes p.done action (session_of tx Main) (Held by key) shard old after
-    (λ k. record { pending = ap (λ (v : View). v.pending k) acts.acted.1; committed = ap (λ (v : View). v.committed k) acts.acted.1; holder = λ h. ap (λ (v : View). v.holder k) acts.acted.1 ∙ h }) acts owe))
+    (λ k held. from_there (old action.shard) acts.there (after action.shard) (session_of tx Main) k up acts.reached held
+    (record { pending = ap (λ (v : View). v.pending k) acts.acted.1; committed = ap (λ (v : View). v.committed k) acts.acted.1; holder = λ h. ap (λ (v : View). v.holder k) acts.acted.1 ∙ h })) acts owe))

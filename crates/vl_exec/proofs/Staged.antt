@@ -1,6 +1,6 @@
 -- What the steps and commits of a client leave of all that stand on the stage.
 use Rattle.std.proofs.Common.{◌≡◌, ◌≢◌, ◌<◌, ◌≤◌, ◌↔◌, ◌-◌, ◌==◌, ⊎_elim, ℕ, zero, suc, cond, Bool, true, false, Option, Some, None, List, [], ◌∷◌, ◌++◌, length, set, length-set, length-append, get_or, get_or-set_same, get_or-set_other, Contains, arith, refl, sym, ap, subst, ◌∙◌}
-use Rattle.std.specs.Prelude.{IfSome, slice_get}
+use Rattle.std.specs.Prelude.{◌&&◌, IfSome, slice_get}
 use Rattle.std.specs.List.{AllPairs}
 use Rattle.std.specs.Option.{is_some}
 use Rattle.std.proofs.lemmas.Bool.{cases_Bool, eqb-true, eqb-false}
@@ -13,19 +13,27 @@ use Rattle.vl_values.specs.declared.group.Group.TheVariants.{Pre, Main, Post}
 use Rattle.vl_catalog.specs.declared.catalog.Catalog.{Catalog}
 use Rattle.vl_catalog.specs.Place.{shard_count}
 use Rattle.vl_rules.specs.Order.{Checked}
+use Rattle.vl_values.specs.declared.lost_why.LostWhy.{LostWhy}
+use Rattle.vl_port.specs.declared.carried.Carried.{Carried}
+use Rattle.vl_port.specs.declared.carried.Carried.TheVariants.{Passed, LostBefore, LostAfter}
 use Rattle.vl_port.specs.declared.committed.Committed.{Committed}
 use Rattle.vl_port.specs.declared.committed.Committed.TheVariants as outcome
+use Rattle.vl_port.specs.declared.fate.Fate.TheVariants as fates
 use Rattle.vl_port.specs.declared.opened.Opened.{Opened}
 use Rattle.vl_port.specs.declared.tx_state.TxState.{TxState}
 use Rattle.vl_port.specs.declared.who.Who.{Who}
-use Rattle.vl_port.specs.Acting.{Settled}
+use Rattle.vl_port.specs.Calls.{HasClosed, HasCommitted, PortView}
+use Rattle.vl_port.specs.Carrying.{Closes, CommitCarries, CommitUses, Commits}
+use Rattle.vl_port.specs.Life.{downed_in, loss_of, lost_as, marked}
 use Rattle.vl_port.specs.Asking.{IsSameTx}
 use Rattle.vl_port.specs.Serving.{Serves, Shards}
 use Rattle.vl_port.specs.Transaction.{IsIn, last_tx, listed, session_of, with_session}
-use Rattle.vl_port.specs.View.{View, is_who}
+use Rattle.vl_port.specs.View.{View, has_group, is_who}
 use Rattle.vl_port.proofs.Enlisting.{in_new}
 use Rattle.vl_port.proofs.Naming.{is_who-same, is_who-true, no_both}
-use Rattle.vl_port.proofs.Strangers.{in_stranger, stranger_done, apart_by_tx}
+use Rattle.vl_port.proofs.Lives.{marked_there}
+use Rattle.vl_port.proofs.Strangers.{apart_by_tx, in_stranger, stranger_closed, stranger_commit}
+use Rattle.vl_shard.specs.Calls.{Drops}
 use Rattle.vl_exec.specs.declared.program_told.ProgramTold.{ProgramTold}
 use Rattle.vl_exec.specs.Answering.{IsWell}
 use Rattle.vl_exec.specs.Making.{IsMade}
@@ -73,18 +81,49 @@ main_apart : (tx : TxState) (group : Group) → group ≢ Main → is_who (sessi
 main_apart tx group apart =
     ⊎_elim (λ same. absurd (apart (sym (some_group Main group (ap (λ (w : Who). w.group) (is_who-true (session_of tx Main) (session_of tx group) same)))))) (λ other. other) (cases_Bool (is_who (session_of tx Main) (session_of tx group)))
 
-ended : (old new : View) (who : Who) (told : Committed) → Settled old who told new → new.sessions who ≡ None
-ended old new who outcome.Done h = ap (λ (v : View). v.sessions who) h ∙ ap (λ (b : Bool). cond b None (old.sessions who)) (is_who-same who)
-ended old new who (outcome.Lost why) h = absurd h
-ended old new who outcome.Device h = absurd h
+closed_ends : (old new : View) (who : Who) → Closes old who new → new.sessions who ≡ None
+closed_ends old new who h = ap (λ (v : View). v.sessions who) h ∙ ap (λ (b : Bool). cond b None (old.sessions who)) (is_who-same who)
 
-module _ (tx : TxState) (count : ℕ) (old new : Shards) (front : List ℕ) (shard : ℕ) (told : Committed) (isin : IsIn tx count old) (ends : tx.main ≡ front ++ shard ∷ [])
-    (settled : Settled (old shard) (session_of tx Main) told (new shard)) (others : (other : ℕ) → other ≢ shard → new other ≡ old other) where
+commits_end : (old new : View) (who : Who) (told : Committed) → Commits old who told new → new.sessions who ≡ None
+commits_end old new who outcome.Done h = closed_ends _ new who h
+commits_end old new who (outcome.Lost why) h = absurd h
+commits_end old new who outcome.Device h = closed_ends (downed_in who old) new who h
+
+uses_end : (loss : Option LostWhy) (old new : View) (who : Who) (told : Committed) → CommitUses loss old who told new → new.sessions who ≡ None
+uses_end None old new who told h = commits_end old new who told h
+uses_end (Some why) old new who told h = closed_ends old new who h.1
+
+carried_ends : (way : Carried) (old new : View) (who : Who) (told : Committed) → CommitCarries way old who told new → new.sessions who ≡ None
+carried_ends Passed old new who told h = uses_end (loss_of old who) old new who told h
+carried_ends LostBefore old new who told h = closed_ends old new who h.1
+carried_ends LostAfter old new who told h = uses_end (loss_of old who) old new who h.1.0 h.1.1
+
+-- a call that ended a session on its shard
+pub record HasEnded (old new : Shards) (who : Who) (shard : ℕ) : Type 0 where
+  pub gone : (new shard).sessions who ≡ None
+  pub stay : (other : Who) → is_who who other ≡ false → (new shard).sessions other ≡ (old shard).sessions other
+  pub others : (other : ℕ) → other ≢ shard → new other ≡ old other
+
+pub committed_ends : {port after : PortView} {who : Who} {shard : ℕ} {told : Committed} → HasCommitted port who shard told after → HasEnded port.shards after.shards who shard
+committed_ends {port} {after} {who} {shard} {told} h = record {
+  gone = carried_ends after.way (port.shards shard) (after.shards shard) who told h.settled;
+  stay = λ other apart. stranger_commit after.way (port.shards shard) (after.shards shard) who other told apart h.settled;
+  others = h.others;
+}
+
+pub close_ends : {port after : PortView} {who : Who} {shard : ℕ} → HasClosed port who shard after → HasEnded port.shards after.shards who shard
+close_ends {port} {after} {who} {shard} h = record {
+  gone = closed_ends (port.shards shard) (after.shards shard) who h.closed;
+  stay = λ other apart. stranger_closed (port.shards shard) (after.shards shard) who other apart h.closed;
+  others = h.others;
+}
+
+module _ (tx : TxState) (count : ℕ) (old new : Shards) (front : List ℕ) (shard : ℕ) (isin : IsIn tx count old) (ends : tx.main ≡ front ++ shard ∷ []) (did : HasEnded old new (session_of tx Main) shard) where
   session_stays : (group : Group) (s : ℕ) → group ≢ Main → (new s).sessions (session_of tx group) ≡ (old s).sessions (session_of tx group)
   session_stays group s apart =
       ⊎_elim (λ same. subst (λ (n : ℕ). (new n).sessions (session_of tx group) ≡ (old n).sessions (session_of tx group)) (sym (eqb-true s shard same))
-      (stranger_done (old shard) (new shard) (session_of tx Main) (session_of tx group) told (main_apart tx group apart) settled))
-      (λ other. ap (λ (v : View). v.sessions (session_of tx group)) (others s (eqb-false s shard other)))
+      (did.stay (session_of tx group) (main_apart tx group apart)))
+      (λ other. ap (λ (v : View). v.sessions (session_of tx group)) (did.others s (eqb-false s shard other)))
       (cases_Bool (s == shard))
 
   once : AllPairs (λ one other. one ≢ other) (front ++ shard ∷ [])
@@ -99,13 +138,13 @@ module _ (tx : TxState) (count : ℕ) (old new : Shards) (front : List ℕ) (sha
   main_there : Contains front shard ↔ (is_some ((new shard).sessions (session_of tx Main)) ≡ true)
   main_there = (
     λ here. absurd (not_twice front shard once here),
-    λ is. absurd (no_both (is_some ((new shard).sessions (session_of tx Main))) is (ap is_some (ended (old shard) (new shard) (session_of tx Main) told settled))),
+    λ is. absurd (no_both (is_some ((new shard).sessions (session_of tx Main))) is (ap is_some did.gone)),
   )
 
   main_elsewhere : (s : ℕ) → s < count → s ≢ shard → Contains front s ↔ (is_some ((new s).sessions (session_of tx Main)) ≡ true)
   main_elsewhere s within apart = (
-    λ here. subst (λ (v : View). is_some (v.sessions (session_of tx Main)) ≡ true) (sym (others s apart)) ((isin.known Main s within).0 (was_listed s here)),
-    λ is. still_listed s apart ((isin.known Main s within).1 (subst (λ (v : View). is_some (v.sessions (session_of tx Main)) ≡ true) (others s apart) is)),
+    λ here. subst (λ (v : View). is_some (v.sessions (session_of tx Main)) ≡ true) (sym (did.others s apart)) ((isin.known Main s within).0 (was_listed s here)),
+    λ is. still_listed s apart ((isin.known Main s within).1 (subst (λ (v : View). is_some (v.sessions (session_of tx Main)) ≡ true) (did.others s apart) is)),
   )
 
   known : (group : Group) (s : ℕ) → s < count → (Contains (listed (with_session tx Main front) group) s ↔ (is_some ((new s).sessions (session_of tx group)) ≡ true))
@@ -126,16 +165,16 @@ module _ (tx : TxState) (count : ℕ) (old new : Shards) (front : List ℕ) (sha
   once_each Main = front_once front shard once
   once_each Post = isin.once Post
 
-  pub in_committed : IsIn (with_session tx Main front) count new
-  in_committed = record { known = known; within = within; once = once_each }
+  pub in_ended : IsIn (with_session tx Main front) count new
+  in_ended = record { known = known; within = within; once = once_each }
 
-pub client_committed : (catalog : Catalog) (old new : Shards) (client : Client) (back : TxState) (who : Who) (shard : ℕ) (told : Committed) → IsClient catalog old client → slice_get client.0.main (length client.0.main - 1) ≡ Some shard
+pub client_ended : (catalog : Catalog) (old new : Shards) (client : Client) (back : TxState) (who : Who) (shard : ℕ) → IsClient catalog old client → slice_get client.0.main (length client.0.main - 1) ≡ Some shard
     → ((front : List ℕ) (last : ℕ) → client.0.main ≡ front ++ last ∷ [] → back ≡ with_session client.0 Main front)
-    → who ≡ session_of client.0 Main → Settled (old shard) who told (new shard) → ((other : ℕ) → other ≢ shard → new other ≡ old other) → IsClient catalog new (back, client.1)
-client_committed catalog old new client back who shard told is last struck own settled others =
+    → who ≡ session_of client.0 Main → HasEnded old new who shard → IsClient catalog new (back, client.1)
+client_ended catalog old new client back who shard is last struck own did =
     let split = last_splits client.0.main shard last in
     subst (λ (t : TxState). IsClient catalog new (t, client.1)) (sym (struck split.0 shard split.1))
-    (record { number = is.number; sessions = in_committed client.0 (shard_count catalog.rings) old new split.0 shard told is.sessions split.1 (subst (λ (w : Who). Settled (old shard) w told (new shard)) own settled) others; made = is.made })
+    (record { number = is.number; sessions = in_ended client.0 (shard_count catalog.rings) old new split.0 shard is.sessions split.1 (subst (λ (w : Who). HasEnded old new w shard) own did); made = is.made })
 
 pub struck_number : (tx back : TxState) (shard : ℕ) → slice_get tx.main (length tx.main - 1) ≡ Some shard → ((front : List ℕ) (last : ℕ) → tx.main ≡ front ++ last ∷ [] → back ≡ with_session tx Main front) → back.number ≡ tx.number
 struck_number tx back shard last struck =
@@ -148,12 +187,11 @@ last_within catalog count seen client shard is serves last =
     let split = last_splits client.0.main shard last in
     subst (λ (n : ℕ). shard < n) (sym serves.shards) (is.sessions.within Main shard (subst (λ (xs : List ℕ). Contains xs shard) (sym split.1) (Contains-push split.0 shard)))
 
-pub foreign_committed : (old new : Shards) (tx : TxState) (by : Who) (shard : ℕ) (told : Committed) → by ≡ session_of tx Main → Settled (old shard) by told (new shard) → ((other : ℕ) → other ≢ shard → new other ≡ old other)
-    → (s : ℕ) (who : Who) → who.tx ≢ tx.number → (new s).sessions who ≡ (old s).sessions who
-foreign_committed old new tx by shard told own settled others s who apart =
+pub foreign_ended : (old new : Shards) (tx : TxState) (by : Who) (shard : ℕ) → by ≡ session_of tx Main → HasEnded old new by shard → (s : ℕ) (who : Who) → who.tx ≢ tx.number → (new s).sessions who ≡ (old s).sessions who
+foreign_ended old new tx by shard own did s who apart =
     ⊎_elim (λ same. subst (λ (n : ℕ). (new n).sessions who ≡ (old n).sessions who) (sym (eqb-true s shard same))
-    (stranger_done (old shard) (new shard) by who told (apart_by_tx by who (λ equal. apart (sym equal ∙ ap (λ (w : Who). w.tx) own))) settled))
-    (λ other. ap (λ (v : View). v.sessions who) (others s (eqb-false s shard other)))
+    (did.stay who (apart_by_tx by who (λ equal. apart (sym equal ∙ ap (λ (w : Who). w.tx) own)))))
+    (λ other. ap (λ (v : View). v.sessions who) (did.others s (eqb-false s shard other)))
     (cases_Bool (s == shard))
 
 -- ---- all clients
@@ -262,4 +300,50 @@ client_stepped catalog count old new client tx told program left is same serves 
   number = subst (λ (n : ℕ). n ≤ last_tx) (sym same.number) is.number;
   sessions = subst (λ (n : ℕ). IsIn tx n new) serves.shards sessions;
   made = left_made catalog (shard_count catalog.rings) tx.limits.tries told program left (λ well. subst (λ (n : ℕ). IsMade catalog n tx.limits.tries program) serves.shards (made well)) over;
+}
+
+-- ---- a session that is killed
+
+-- each session is there that was there, and no other
+abbrev pub AreAlike : Shards → Shards → Type 0
+AreAlike old new = (shard : ℕ) (who : Who) → is_some ((new shard).sessions who) ≡ is_some ((old shard).sessions who)
+
+lost_alike : (old new : View) (who other : Who) → new ≡ lost_as fates.Dropped who old → is_some (new.sessions other) ≡ is_some (old.sessions other)
+lost_alike old new who other is = ap (λ (v : View). is_some (v.sessions other)) is ∙ chosen_alike (has_group who.group && is_who who other) (old.sessions other)
+  where
+    chosen_alike : (b : Bool) (o : Option Opened) → is_some (cond b (marked fates.Dropped o) o) ≡ is_some o
+    chosen_alike true o = marked_there fates.Dropped o
+    chosen_alike false o = refl
+
+drops_alike : (b : Bool) (old new : View) (session : ℕ) (group : Group) (who : Who) → Drops old session group b new → is_some (new.sessions who) ≡ is_some (old.sessions who)
+drops_alike true old new session group who h = lost_alike old new h.0 who h.2
+drops_alike false old new session group who h = ap (λ (v : View). is_some (v.sessions who)) h.1
+
+pub dropped_alike : (b : Bool) (old new : Shards) (shard session : ℕ) (group : Group) → Drops (old shard) session group b (new shard) → ((other : ℕ) → other ≢ shard → new other ≡ old other) → AreAlike old new
+dropped_alike b old new shard session group drops others s who =
+    ⊎_elim (λ same. subst (λ (n : ℕ). is_some ((new n).sessions who) ≡ is_some ((old n).sessions who)) (sym (eqb-true s shard same)) (drops_alike b (old shard) (new shard) session group who drops))
+    (λ other. ap (λ (v : View). is_some (v.sessions who)) (others s (eqb-false s shard other)))
+    (cases_Bool (s == shard))
+
+none_there : (o : Option Opened) → is_some o ≡ false → o ≡ None
+none_there None h = refl
+none_there (Some session) h = absurd (cc (h))
+
+client_alike : (catalog : Catalog) (old new : Shards) (client : Client) → IsClient catalog old client → AreAlike old new → IsClient catalog new client
+client_alike catalog old new client is alike = record {
+  number = is.number;
+  sessions = record {
+    known = λ group shard within. subst (λ (b : Bool). Contains (listed client.0 group) shard ↔ (b ≡ true)) (sym (alike shard (session_of client.0 group))) (is.sessions.known group shard within);
+    within = is.sessions.within;
+    once = is.sessions.once;
+  };
+  made = is.made;
+}
+
+pub clients_alike : (catalog : Catalog) (count count_new : ℕ) (old new : Shards) (clients : List Client) → AreClients catalog count old clients → Serves catalog count_new new → AreAlike old new → AreClients catalog count_new new clients
+clients_alike catalog count count_new old new clients are serves alike = record {
+  checked = are.checked;
+  serves = serves;
+  each = λ n any within. let is = are.each n any within in (is.0, client_alike catalog old new (get_or clients n any) is.1 alike);
+  free = λ shard who within later. none_there ((new shard).sessions who) (alike shard who ∙ ap is_some (are.free shard who within later));
 }

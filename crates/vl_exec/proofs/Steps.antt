@@ -1,9 +1,10 @@
 -- What a step keeps and changes, by what it did.
-use Rattle.std.proofs.Common.{◌≡◌, ◌≢◌, ◌⊎◌, ℕ, ◌+◌, ◌∙◌, inl, inr, Bool, true, false, Option, Some, None, refl, sym, ap, subst}
+use Rattle.std.proofs.Common.{◌≡◌, ◌⊎◌, ◌<◌, ℕ, ◌+◌, ◌∙◌, inl, inr, Bool, true, false, Option, Some, None, refl, sym, ap, subst}
 use Rattle.std.specs.Prelude.{nat_lt}
-use Rattle.std.proofs.lemmas.Bool.{cases_Bool}
 use Rattle.std.proofs.lemmas.Option.{slice_get_within}
+use Rattle.vl_values.specs.declared.cause.Cause.{Cause}
 use Rattle.vl_values.specs.declared.cause.Cause.TheVariants.{OutOfMemory}
+use Rattle.vl_values.specs.declared.group.Group.{Group}
 use Rattle.vl_values.specs.declared.group.Group.TheVariants.{Main}
 use Rattle.vl_values.specs.declared.key.Key.{Key}
 use Rattle.vl_catalog.specs.declared.catalog.Catalog.{Catalog}
@@ -14,63 +15,97 @@ use Rattle.vl_port.specs.declared.answer.Answer.TheVariants.{Done, Unchanged, Ro
 use Rattle.vl_port.specs.declared.tx_state.TxState.{TxState}
 use Rattle.vl_port.specs.declared.who.Who.{Who}
 use Rattle.vl_port.specs.Acting.{Acted}
-use Rattle.vl_port.specs.Holding.{needs}
-use Rattle.vl_port.specs.Asking.{ActsOn, AreSame, IsSameTx, PortView}
+use Rattle.vl_port.specs.Asking.{HasAnswered, IsSameTx}
+use Rattle.vl_port.specs.Calls.{HasActed, PortView}
+use Rattle.vl_port.specs.Life.{Reaches}
+use Rattle.vl_port.specs.Placing.{ArePlaced}
 use Rattle.vl_port.specs.Serving.{Serves, Shards}
-use Rattle.vl_port.specs.Transaction.{IsIn, session_of}
-use Rattle.vl_port.specs.View.{View, is_who}
-use Rattle.vl_port.proofs.Asked.{same_or_other, same_enlisted, same_from, serves_same}
-use Rattle.vl_port.proofs.Enlisting.{in_acted, in_same, session_enlisted}
-use Rattle.vl_port.proofs.Naming.{is_who-true}
-use Rattle.vl_port.proofs.Served.{serves_acted}
-use Rattle.vl_port.proofs.Staying.{stays_acted}
-use Rattle.vl_port.proofs.Strangers.{apart_by_tx, stranger_acted}
+use Rattle.vl_port.specs.Transaction.{session_of}
+use Rattle.vl_port.specs.View.{View}
+use Rattle.vl_port.proofs.Leaving.{same_or_other}
 use Rattle.vl_exec.specs.declared.action.Action.{Action}
 use Rattle.vl_exec.specs.declared.program_told.ProgramTold.{ProgramTold}
 use Rattle.vl_exec.specs.declared.program_told.ProgramTold.TheVariants as told
-use Rattle.vl_exec.specs.Answering.{Answered, IsWell, TellsNext, WaitsOn, refused}
-use Rattle.vl_exec.specs.Effects.{AreOwed, AreOwedBy, HasLocksOf, HasPendingOf, HasWritten, IsOwed, IsWritten, LeavesOpen}
+use Rattle.vl_exec.specs.Answering.{Answered, IsWell, TellsNext, WaitsOn, device_failed, limit_of_changes, refused, refused_whole, session_lost}
+use Rattle.vl_exec.specs.Effects.{AreOwed, AreOwedBy, HasLocksOf, HasPendingOf, HasWritten, IsOwed, LeavesOpen}
 use Rattle.vl_exec.specs.declared.search.Search.{Search}
 use Rattle.vl_exec.specs.Making.{IsMade}
 use Rattle.vl_exec.specs.Progress.{IsNearer, Progress, acts_done, due, with_write}
-use Rattle.vl_exec.specs.Stepping.{Did, Idle, NoRoom, Stepped}
+use Rattle.vl_exec.specs.Stepping.{Did, Full, Idle, NoRoom, Stepped}
 use Rattle.vl_exec.proofs.Asking.{limits_kept}
-use Rattle.vl_exec.proofs.Dues.{IsDue, done_writes, due_fits, due_is, rows_read}
-use Rattle.vl_exec.proofs.Goings.{Read, Waited, Went, Wrote, ended, read_counts, reads_end, went, write_counts, writes_end}
+use Rattle.vl_exec.proofs.Dues.{IsDue, done_writes, due_fits, due_is, due_main, rows_read}
+use Rattle.vl_exec.proofs.Goings.{Read, Waited, Went, Wrote, ended, read_counts, reads_end, went, went_of_act, write_counts, writes_end}
 use Rattle.vl_exec.proofs.Keeping.{went_keeps}
-use Rattle.vl_exec.proofs.Owing.{still_holds, went_owes}
+use Rattle.vl_exec.proofs.Owing.{IsUpFor, went_owes}
+use Rattle.vl_exec.proofs.Reached.{IsDone, IsOfAct, acted_holds, done_there, held_up, memory_leaves, reached_holder, reached_pending, reached_placed}
 use Rattle.vl_exec.proofs.Writings.{same_tx, went_written}
 
 -- what a step asks for
 pub record IsReady (catalog : Catalog) (count : ℕ) (seen : Shards) (tx : TxState) (p : Progress) : Type 0 where
   pub checked : Checked catalog
   pub serves : Serves catalog count seen
-  pub sessions : IsIn tx count seen
   pub made : IsMade catalog count tx.limits.tries p
+
+-- ---- the action that was done
+
+-- the session that acted is the transaction's main one
+by_main : (catalog : Catalog) (count : ℕ) (p : Progress) (tx tx_new : TxState) (port after : PortView) (action : Action) (answer : Answer) → IsMade catalog count tx.limits.tries p → due p ≡ Some action
+    → HasAnswered port tx action.group action.shard action.act answer tx_new after → HasActed port (session_of tx Main) action.shard action.act answer after
+by_main catalog count p tx tx_new port after action answer made is asked =
+    subst (λ (g : Group). HasActed port (session_of tx g) action.shard action.act answer after) (due_main catalog count tx.limits.tries p action made (due_is p action is)) asked.acts
+
+within_count : (catalog : Catalog) (count : ℕ) (p : Progress) (tx : TxState) (action : Action) → IsMade catalog count tx.limits.tries p → due p ≡ Some action → action.shard < count
+within_count catalog count p tx action made is = (due_fits catalog count tx.limits.tries p action made (due_is p action is)).0
+
+-- a step after which the program goes on did its action, and how
+pub record WentOn (catalog : Catalog) (count : ℕ) (old new : Progress) (tx : TxState) (port after : PortView) (action : Action) (answer : Answer) : Type 0 where
+  pub goes : Went old action tx.limits.tries new answer
+  pub due : IsDue old action
+  pub done : IsDone port.shards after.shards (session_of tx Main) action.shard action.act answer
+  pub up : IsUpFor (port.shards action.shard) (session_of tx Main)
+  pub placed : ArePlaced catalog action.shard done.there
+
+went_on : (catalog : Catalog) (count : ℕ) (old new : Progress) (tx tx_new : TxState) (port after : PortView) (tells : ProgramTold) (action : Action) (answer : Answer) → IsReady catalog count port.shards tx old → due old ≡ Some action
+    → HasAnswered port tx action.group action.shard action.act answer tx_new after → Answered catalog tx old action answer tells new → IsWell tells → WentOn catalog count old new tx port after action answer
+went_on catalog count old new tx tx_new port after tells action answer ready is asked answered well =
+    let goes = went catalog tx old action answer tells new answered well in
+    let done = done_there port after (session_of tx Main) action.shard action.act answer (went_of_act old new action tx.limits.tries answer goes) (by_main catalog count old tx tx_new port after action answer ready.made is asked) in
+    let served = ready.serves.each action.shard (within_count catalog count old tx action ready.made is) in
+    record {
+      goes = goes;
+      due = due_is old action is;
+      done = done;
+      up = λ key held. held_up (port.shards action.shard) (session_of tx Main) key served.kept held;
+      placed = reached_placed catalog action.shard (port.shards action.shard) done.there done.reached served.placed;
+    }
 
 -- ---- a step after which no shard shows anything else
 
-written_same : (seen after : Shards) (tx : TxState) (p : Progress) (shard : ℕ) → AreSame seen after → HasWritten seen tx p shard → HasWritten after tx p shard
-written_same seen after tx p shard same before n action below at on = subst (λ (v : View). IsWritten v (session_of tx Main) action.act) (sym (same shard)) (before n action below at on)
+written_same : (seen after : Shards) (tx : TxState) (p : Progress) (shard : ℕ) → after ≡ seen → HasWritten seen tx p shard → HasWritten after tx p shard
+written_same seen after tx p shard same before = subst (λ (s : Shards). HasWritten s tx p shard) (sym same) before
 
-owed_same_by : (seen after : Shards) (tx : TxState) (o : Option Search) (p : Progress) (shard : ℕ) → AreSame seen after → AreOwedBy seen tx o p shard → AreOwedBy after tx o p shard
-owed_same_by seen after tx None p shard same before = tt
-owed_same_by seen after tx (Some it) p shard same before = λ n action from at on. subst (λ (v : View). IsOwed it v (session_of tx Main) action) (sym (same shard)) (before n action from at on)
+owed_same : (seen after : Shards) (tx : TxState) (p : Progress) (shard : ℕ) → after ≡ seen → AreOwed seen tx p shard → AreOwed after tx p shard
+owed_same seen after tx p shard same before = subst (λ (s : Shards). AreOwed s tx p shard) (sym same) before
 
-unmoved : (port after : PortView) → after ≡ port → AreSame port.shards after.shards
-unmoved port after is shard = ap (λ (v : PortView). v.shards shard) is
+unmoved : (port after : PortView) → after ≡ port → after.shards ≡ port.shards
+unmoved port after is = ap (λ (v : PortView). v.shards) is
 
 -- ---- the statement's writes stand
 
-pub stepped_written : (catalog : Catalog) (count : ℕ) (old new : Progress) (tx tx_new : TxState) (port after : PortView) (tells : ProgramTold) → IsReady catalog count port.shards tx old
+session_kept : (tx new : TxState) (group : Group) → IsSameTx tx new → session_of new group ≡ session_of tx group
+session_kept tx new group same = λ i. record { session = same.session i; tx = same.number i; group = Some group }
+
+pub stepped_written : (catalog : Catalog) (count : ℕ) (old new : Progress) (tx tx_new : TxState) (port after : PortView) (tells : ProgramTold) → IsReady catalog count port.shards tx old → IsSameTx tx tx_new
     → Stepped catalog old tx port tells new tx_new after → (shard : ℕ) → HasWritten port.shards tx old shard → IsWell tells → HasWritten after.shards tx_new new shard
-stepped_written catalog count old new tx tx_new port after tells ready (Idle none replied same same_tx_is shown) shard before well =
-    subst (λ (t : TxState). HasWritten after.shards t new shard) (sym same_tx_is)
+stepped_written catalog count old new tx tx_new port after tells ready same_tx_is (Idle none replied same unchanged shown) shard before well =
+    same_tx after.shards tx tx_new new shard (session_kept tx tx_new Main same_tx_is)
     (subst (λ (p : Progress). HasWritten after.shards tx p shard) (sym same) (written_same port.shards after.shards tx old shard (unmoved port after shown) before))
-stepped_written catalog count old new tx tx_new port after tells ready (NoRoom action is replied unasked) shard before well = ended tells (refused tx old OutOfMemory) replied (λ it. it) well
-stepped_written catalog count old new tx tx_new port after tells ready (Did action answer is asked answered) shard before well =
-    same_tx after.shards tx tx_new new shard (session_enlisted tx tx_new Main Main action.shard asked.listed.0 asked.listed.1)
-    (went_written catalog count tx.limits.tries old new action answer tx shard port.shards after.shards ready.made (due_is old action is) asked.acts (went catalog tx old action answer tells new answered well) before)
+stepped_written catalog count old new tx tx_new port after tells ready same_tx_is (Full action is full replied unchanged shown) shard before well = ended tells (refused tx old (limit_of_changes tx)) replied (λ it. it) well
+stepped_written catalog count old new tx tx_new port after tells ready same_tx_is (NoRoom action is within replied unasked) shard before well = ended tells (refused tx old OutOfMemory) replied (λ it. it) well
+stepped_written catalog count old new tx tx_new port after tells ready same_tx_is (Did action answer is within asked answered) shard before well =
+    let on = went_on catalog count old new tx tx_new port after tells action answer ready is asked answered well in
+    same_tx after.shards tx tx_new new shard (session_kept tx tx_new Main same_tx_is)
+    (went_written catalog count tx.limits.tries old new action answer tx shard port.shards after.shards ready.made on.due on.done on.goes before)
 
 -- ---- the rows that were found stand
 
@@ -78,16 +113,17 @@ owed_by_session : (seen : Shards) (tx tx_new : TxState) (o : Option Search) (p :
 owed_by_session seen tx tx_new None p shard same before = tt
 owed_by_session seen tx tx_new (Some it) p shard same before = λ n action from at on. subst (λ (w : Who). IsOwed it (seen shard) w action) (sym same) (before n action from at on)
 
-pub stepped_owed : (catalog : Catalog) (count : ℕ) (old new : Progress) (tx tx_new : TxState) (port after : PortView) (tells : ProgramTold) → IsReady catalog count port.shards tx old
+pub stepped_owed : (catalog : Catalog) (count : ℕ) (old new : Progress) (tx tx_new : TxState) (port after : PortView) (tells : ProgramTold) → IsReady catalog count port.shards tx old → IsSameTx tx tx_new
     → Stepped catalog old tx port tells new tx_new after → (shard : ℕ) → AreOwed port.shards tx old shard → IsWell tells → AreOwed after.shards tx_new new shard
-stepped_owed catalog count old new tx tx_new port after tells ready (Idle none replied same same_tx_is shown) shard before well =
-    subst (λ (t : TxState). AreOwed after.shards t new shard) (sym same_tx_is)
-    (subst (λ (p : Progress). AreOwed after.shards tx p shard) (sym same) (owed_same_by port.shards after.shards tx old.search old shard (unmoved port after shown) before))
-stepped_owed catalog count old new tx tx_new port after tells ready (NoRoom action is replied unasked) shard before well = ended tells (refused tx old OutOfMemory) replied (λ it. it) well
-stepped_owed catalog count old new tx tx_new port after tells ready (Did action answer is asked answered) shard before well =
-    owed_by_session after.shards tx tx_new new.search new shard (session_enlisted tx tx_new Main Main action.shard asked.listed.0 asked.listed.1)
-    (went_owes catalog count tx.limits.tries old new action answer tx shard port.shards after.shards old.search refl ready.made (due_is old action is) asked.acts
-    (went catalog tx old action answer tells new answered well) before)
+stepped_owed catalog count old new tx tx_new port after tells ready same_tx_is (Idle none replied same unchanged shown) shard before well =
+    owed_by_session after.shards tx tx_new new.search new shard (session_kept tx tx_new Main same_tx_is)
+    (subst (λ (p : Progress). AreOwed after.shards tx p shard) (sym same) (owed_same port.shards after.shards tx old shard (unmoved port after shown) before))
+stepped_owed catalog count old new tx tx_new port after tells ready same_tx_is (Full action is full replied unchanged shown) shard before well = ended tells (refused tx old (limit_of_changes tx)) replied (λ it. it) well
+stepped_owed catalog count old new tx tx_new port after tells ready same_tx_is (NoRoom action is within replied unasked) shard before well = ended tells (refused tx old OutOfMemory) replied (λ it. it) well
+stepped_owed catalog count old new tx tx_new port after tells ready same_tx_is (Did action answer is within asked answered) shard before well =
+    let on = went_on catalog count old new tx tx_new port after tells action answer ready is asked answered well in
+    owed_by_session after.shards tx tx_new new.search new shard (session_kept tx tx_new Main same_tx_is)
+    (went_owes catalog count tx.limits.tries old new action answer tx shard port.shards after.shards old.search refl ready.made on.due on.up on.done on.goes before)
 
 -- ---- before the first write
 
@@ -103,68 +139,112 @@ pending_same : (tx : TxState) (old new : Shards) → ((shard : ℕ) (key : Key) 
 pending_same tx old new same shard group key row = (λ h. same shard key ∙ h, λ h. sym (same shard key) ∙ h)
 
 -- the shard of the act keeps its pending versions, and the others show what they did
-others_keep : (seen after : Shards) (who : Who) (shard : ℕ) (act : Act) (answer : Answer) (s : ℕ) (key : Key) → ActsOn seen who shard act answer after → (after shard).pending key ≡ (seen shard).pending key
-    → (after s).pending key ≡ (seen s).pending key
-others_keep seen after who shard act answer s key acts pending =
+others_keep : (port after : PortView) (who : Who) (shard : ℕ) (act : Act) (answer : Answer) (s : ℕ) (key : Key) → HasActed port who shard act answer after → (after.shards shard).pending key ≡ (port.shards shard).pending key
+    → (after.shards s).pending key ≡ (port.shards s).pending key
+others_keep port after who shard act answer s key acts pending =
     elim (same_or_other s shard) [
-      | inl at ↦ subst (λ (n : ℕ). (after n).pending key ≡ (seen n).pending key) (sym at) pending
+      | inl at ↦ subst (λ (n : ℕ). (after.shards n).pending key ≡ (port.shards n).pending key) (sym at) pending
       | inr other ↦ ap (λ (v : View). v.pending key) (acts.others s other)
     ]
 
 wrote_none : (old new : Progress) → new ≡ with_write old → new.wrote ≡ false → ⊥
 wrote_none old new is unwritten = cc (ap (λ (p : Progress). p.wrote) is, unwritten)
 
--- only `Done` of a write changes a pending version, and then something was written
-answer_keeps : (catalog : Catalog) (tx : TxState) (old new : Progress) (seen after : Shards) (who : Who) (action : Action) (answer : Answer) (tells : ProgramTold) (s : ℕ) (key : Key) → ActsOn seen who action.shard action.act answer after
-    → Answered catalog tx old action answer tells new → IsUnwritten tells new → (after s).pending key ≡ (seen s).pending key
-answer_keeps catalog tx old new seen after who action Done tells s key acts answered (inl leaves) = absurd (next_stays tx (due (with_write old)) (with_write old) tells answered.0 leaves)
-answer_keeps catalog tx old new seen after who action Done tells s key acts answered (inr goes) = absurd (wrote_none old new answered.1 goes.1)
-answer_keeps catalog tx old new seen after who action Unchanged tells s key acts answered open_ = absurd answered
-answer_keeps catalog tx old new seen after who action (Rows rows) tells s key acts answered open_ = others_keep seen after who action.shard action.act (Rows rows) s key acts (ap (λ (v : View). v.pending key) acts.acted.2)
-answer_keeps catalog tx old new seen after who action (Found k row) tells s key acts answered open_ = others_keep seen after who action.shard action.act (Found k row) s key acts (ap (λ (v : View). v.pending key) acts.acted.2)
-answer_keeps catalog tx old new seen after who action (Held by k) tells s key acts answered open_ = others_keep seen after who action.shard action.act (Held by k) s key acts (ap (λ (v : View). v.pending key) acts.acted.1)
-answer_keeps catalog tx old new seen after who action (Lost why) tells s key acts answered open_ = absurd acts.acted
-answer_keeps catalog tx old new seen after who action Device tells s key acts answered open_ = absurd acts.acted
-answer_keeps catalog tx old new seen after who action (Limit what count) tells s key acts answered open_ = absurd acts.acted
-answer_keeps catalog tx old new seen after who action Memory tells s key acts answered open_ = absurd answered
+-- a reply that ends the transaction leaves nothing open
+whole_ends : {X : Type 0} (tells : ProgramTold) (cause : Cause) (new : Progress) → tells ≡ refused_whole cause → IsUnwritten tells new → X
+whole_ends tells cause new is (inl leaves) = absurd (cc (subst LeavesOpen is leaves))
+whole_ends tells cause new is (inr goes) = ended tells (refused_whole cause) is (λ it. it) goes.0
+
+-- an act that wrote nothing leaves the pending versions of its shard
+not_written : (old new : View) (who : Who) (act : Act) (answer : Answer) (key : Key) → (answer ≡ Done → ⊥) → Acted old who act answer new → new.pending key ≡ old.pending key
+not_written old new who act Done key never acted = absurd (never refl)
+not_written old new who act Unchanged key never acted = ap (λ (v : View). v.pending key) acted.2
+not_written old new who act (Rows rows) key never acted = ap (λ (v : View). v.pending key) acted.2
+not_written old new who act (Found k row) key never acted = ap (λ (v : View). v.pending key) acted.2
+not_written old new who act (Held by k) key never acted = ap (λ (v : View). v.pending key) acted.1
+not_written old new who act (Limit what count) key never acted = ap (λ (v : View). v.pending key) acted.2
+not_written old new who act (Lost why) key never acted = absurd acted
+not_written old new who act Device key never acted = absurd acted
+not_written old new who act Memory key never acted = ap (λ (v : View). v.pending key) acted
+
+done_keeps : (port after : PortView) (who : Who) (shard : ℕ) (act : Act) (answer : Answer) (s : ℕ) (key : Key) → IsOfAct answer → (answer ≡ Done → ⊥) → HasActed port who shard act answer after
+    → (after.shards s).pending key ≡ (port.shards s).pending key
+done_keeps port after who shard act answer s key of never acts =
+    let done = done_there port after who shard act answer of acts in
+    others_keep port after who shard act answer s key acts (not_written done.there (after.shards shard) who act answer key never done.acted ∙ reached_pending (port.shards shard) done.there key done.reached)
+
+memory_pends : (old new : View) (key : Key) → (new ≡ old) ⊎ Reaches old new → new.pending key ≡ old.pending key
+memory_pends old new key (inl same) = ap (λ (v : View). v.pending key) same
+memory_pends old new key (inr reached) = reached_pending old new key reached
+
+-- only `Done` of a write changes a pending version, and then something was written; a lost session and a
+-- failed device leave no transaction open
+answer_keeps : (catalog : Catalog) (tx : TxState) (old new : Progress) (port after : PortView) (who : Who) (action : Action) (answer : Answer) (tells : ProgramTold) (s : ℕ) (key : Key) → HasActed port who action.shard action.act answer after
+    → Answered catalog tx old action answer tells new → IsUnwritten tells new → (after.shards s).pending key ≡ (port.shards s).pending key
+answer_keeps catalog tx old new port after who action Done tells s key acts answered (inl leaves) = absurd (next_stays tx (due (with_write old)) (with_write old) tells answered.0 leaves)
+answer_keeps catalog tx old new port after who action Done tells s key acts answered (inr goes) = absurd (wrote_none old new answered.1 goes.1)
+answer_keeps catalog tx old new port after who action Unchanged tells s key acts answered open_ = absurd answered
+answer_keeps catalog tx old new port after who action (Rows rows) tells s key acts answered open_ = done_keeps port after who action.shard action.act (Rows rows) s key tt (λ e. absurd (cc (e))) acts
+answer_keeps catalog tx old new port after who action (Found k row) tells s key acts answered open_ = done_keeps port after who action.shard action.act (Found k row) s key tt (λ e. absurd (cc (e))) acts
+answer_keeps catalog tx old new port after who action (Held by k) tells s key acts answered open_ = done_keeps port after who action.shard action.act (Held by k) s key tt (λ e. absurd (cc (e))) acts
+answer_keeps catalog tx old new port after who action (Limit what count) tells s key acts answered open_ = done_keeps port after who action.shard action.act (Limit what count) s key tt (λ e. absurd (cc (e))) acts
+answer_keeps catalog tx old new port after who action (Lost why) tells s key acts answered open_ = whole_ends tells (session_lost catalog action why) new answered open_
+answer_keeps catalog tx old new port after who action Device tells s key acts answered open_ = whole_ends tells (device_failed catalog action) new answered open_
+answer_keeps catalog tx old new port after who action Memory tells s key acts answered open_ =
+    others_keep port after who action.shard action.act Memory s key acts
+    (memory_pends (port.shards action.shard) (after.shards action.shard) key (memory_leaves after.way (port.shards action.shard) (after.shards action.shard) who action.act acts.acted))
 
 pub stepped_kept : (catalog : Catalog) (old new : Progress) (tx tx_new : TxState) (port after : PortView) (tells : ProgramTold) → Stepped catalog old tx port tells new tx_new after → IsUnwritten tells new
     → HasPendingOf tx port.shards after.shards
-stepped_kept catalog old new tx tx_new port after tells (Idle none replied same same_tx_is shown) open_ = pending_same tx port.shards after.shards (λ shard key. ap (λ (v : View). v.pending key) (unmoved port after shown shard))
-stepped_kept catalog old new tx tx_new port after tells (NoRoom action is replied unasked) open_ = pending_same tx port.shards after.shards (λ shard key. ap (λ (v : View). v.pending key) (unasked.shown shard))
-stepped_kept catalog old new tx tx_new port after tells (Did action answer is asked answered) open_ =
-    pending_same tx port.shards after.shards (λ shard key. answer_keeps catalog tx old new port.shards after.shards (session_of tx Main) action answer tells shard key asked.acts answered open_)
+stepped_kept catalog old new tx tx_new port after tells (Idle none replied same unchanged shown) open_ = pending_same tx port.shards after.shards (λ shard key. ap (λ (v : PortView). (v.shards shard).pending key) shown)
+stepped_kept catalog old new tx tx_new port after tells (Full action is full replied unchanged shown) open_ = pending_same tx port.shards after.shards (λ shard key. ap (λ (v : PortView). (v.shards shard).pending key) shown)
+stepped_kept catalog old new tx tx_new port after tells (NoRoom action is within replied unasked) open_ = pending_same tx port.shards after.shards (λ shard key. ap (λ (v : PortView). (v.shards shard).pending key) unasked.shown)
+stepped_kept catalog old new tx tx_new port after tells (Did action answer is within asked answered) open_ =
+    pending_same tx port.shards after.shards (λ shard key. answer_keeps catalog tx old new port after (session_of tx action.group) action answer tells shard key asked.acts answered open_)
 
 -- ---- locks
 
--- a session that acts keeps the keys that it holds
-own_held : (old new : View) (who : Who) (act : Act) (answer : Answer) (key : Key) → old.holder key ≡ Some who → Acted old who act answer new → new.holder key ≡ Some who
-own_held old new who act Done key held acted = ap (λ (v : View). v.holder key) acted.2 ∙ still_holds (needs old act key) who (old.holder key) held
-own_held old new who act Unchanged key held acted = ap (λ (v : View). v.holder key) acted.2 ∙ still_holds (needs old act key) who (old.holder key) held
-own_held old new who act (Rows rows) key held acted = ap (λ (v : View). v.holder key) acted.2 ∙ still_holds (needs old act key) who (old.holder key) held
-own_held old new who act (Found k row) key held acted = ap (λ (v : View). v.holder key) acted.2 ∙ still_holds (needs old act key) who (old.holder key) held
-own_held old new who act (Held by k) key held acted = ap (λ (v : View). v.holder key) acted.1 ∙ held
-own_held old new who act (Lost why) key held acted = absurd acted
-own_held old new who act Device key held acted = absurd acted
-own_held old new who act (Limit what count) key held acted = absurd acted
-own_held old new who act Memory key held acted = ap (λ (v : View). v.holder key) acted ∙ held
+-- the reply leaves the transaction open, or the program goes on
+abbrev pub IsOn : ProgramTold → Type 0
+IsOn tells = LeavesOpen tells ⊎ IsWell tells
 
--- and takes none from another
-any_held : (old new : View) (who other : Who) (act : Act) (answer : Answer) (key : Key) → old.holder key ≡ Some other → Acted old who act answer new → new.holder key ≡ Some other
-any_held old new who other act answer key held acted =
-    elim (cases_Bool (is_who other who)) [
-      | inl same ↦ subst (λ (w : Who). new.holder key ≡ Some w) (sym (is_who-true other who same)) (own_held old new who act answer key (subst (λ (w : Who). old.holder key ≡ Some w) (is_who-true other who same) held) acted)
-      | inr apart ↦ (stays_acted old new other who act answer key held apart acted).holder ∙ held
-    ]
+whole_is_off : {X : Type 0} (tells : ProgramTold) (cause : Cause) → tells ≡ refused_whole cause → IsOn tells → X
+whole_is_off tells cause is (inl leaves) = absurd (cc (subst LeavesOpen is leaves))
+whole_is_off tells cause is (inr well) = ended tells (refused_whole cause) is (λ it. it) well
 
-pub stepped_locked : (catalog : Catalog) (old new : Progress) (tx tx_new : TxState) (port after : PortView) (tells : ProgramTold) → Stepped catalog old tx port tells new tx_new after → HasLocksOf tx port.shards after.shards
-stepped_locked catalog old new tx tx_new port after tells (Idle none replied same same_tx_is shown) shard group key held = ap (λ (v : View). v.holder key) (unmoved port after shown shard) ∙ held
-stepped_locked catalog old new tx tx_new port after tells (NoRoom action is replied unasked) shard group key held = ap (λ (v : View). v.holder key) (unasked.shown shard) ∙ held
-stepped_locked catalog old new tx tx_new port after tells (Did action answer is asked answered) shard group key held =
+done_holds : (port after : PortView) (who other : Who) (shard : ℕ) (act : Act) (answer : Answer) (key : Key) → IsOfAct answer → HasActed port who shard act answer after → (port.shards shard).holder key ≡ Some other
+    → (after.shards shard).holder key ≡ Some other
+done_holds port after who other shard act answer key of acts held =
+    let done = done_there port after who shard act answer of acts in
+    acted_holds done.there (after.shards shard) who other act answer key (reached_holder (port.shards shard) done.there key done.reached ∙ held) done.acted
+
+memory_holds : (old new : View) (other : Who) (key : Key) → (new ≡ old) ⊎ Reaches old new → old.holder key ≡ Some other → new.holder key ≡ Some other
+memory_holds old new other key (inl same) held = ap (λ (v : View). v.holder key) same ∙ held
+memory_holds old new other key (inr reached) held = reached_holder old new key reached ∙ held
+
+answer_holds : (catalog : Catalog) (tx : TxState) (old new : Progress) (port after : PortView) (who other : Who) (action : Action) (answer : Answer) (tells : ProgramTold) (key : Key) → HasActed port who action.shard action.act answer after
+    → Answered catalog tx old action answer tells new → IsOn tells → (port.shards action.shard).holder key ≡ Some other → (after.shards action.shard).holder key ≡ Some other
+answer_holds catalog tx old new port after who other action Done tells key acts answered on held = done_holds port after who other action.shard action.act Done key tt acts held
+answer_holds catalog tx old new port after who other action Unchanged tells key acts answered on held = done_holds port after who other action.shard action.act Unchanged key tt acts held
+answer_holds catalog tx old new port after who other action (Rows rows) tells key acts answered on held = done_holds port after who other action.shard action.act (Rows rows) key tt acts held
+answer_holds catalog tx old new port after who other action (Found k row) tells key acts answered on held = done_holds port after who other action.shard action.act (Found k row) key tt acts held
+answer_holds catalog tx old new port after who other action (Held by k) tells key acts answered on held = done_holds port after who other action.shard action.act (Held by k) key tt acts held
+answer_holds catalog tx old new port after who other action (Limit what count) tells key acts answered on held = done_holds port after who other action.shard action.act (Limit what count) key tt acts held
+answer_holds catalog tx old new port after who other action (Lost why) tells key acts answered on held = whole_is_off tells (session_lost catalog action why) answered on
+answer_holds catalog tx old new port after who other action Device tells key acts answered on held = whole_is_off tells (device_failed catalog action) answered on
+answer_holds catalog tx old new port after who other action Memory tells key acts answered on held =
+    memory_holds (port.shards action.shard) (after.shards action.shard) other key (memory_leaves after.way (port.shards action.shard) (after.shards action.shard) who action.act acts.acted) held
+
+pub stepped_locked : (catalog : Catalog) (old new : Progress) (tx tx_new : TxState) (port after : PortView) (tells : ProgramTold) → Stepped catalog old tx port tells new tx_new after → IsOn tells → HasLocksOf tx port.shards after.shards
+stepped_locked catalog old new tx tx_new port after tells (Idle none replied same unchanged shown) on shard group key held = ap (λ (v : PortView). (v.shards shard).holder key) shown ∙ held
+stepped_locked catalog old new tx tx_new port after tells (Full action is full replied unchanged shown) on shard group key held = ap (λ (v : PortView). (v.shards shard).holder key) shown ∙ held
+stepped_locked catalog old new tx tx_new port after tells (NoRoom action is within replied unasked) on shard group key held = ap (λ (v : PortView). (v.shards shard).holder key) unasked.shown ∙ held
+stepped_locked catalog old new tx tx_new port after tells (Did action answer is within asked answered) on shard group key held =
     elim (same_or_other shard action.shard) [
       | inl at ↦
           subst (λ (n : ℕ). (after.shards n).holder key ≡ Some (session_of tx group)) (sym at)
-          (any_held (port.shards action.shard) (after.shards action.shard) (session_of tx Main) (session_of tx group) action.act answer key (subst (λ (n : ℕ). (port.shards n).holder key ≡ Some (session_of tx group)) at held) asked.acts.acted)
+          (answer_holds catalog tx old new port after (session_of tx action.group) (session_of tx group) action answer tells key asked.acts answered on
+          (subst (λ (n : ℕ). (port.shards n).holder key ≡ Some (session_of tx group)) at held))
       | inr other ↦ ap (λ (v : View). v.holder key) (asked.acts.others shard other) ∙ held
     ]
 
@@ -191,11 +271,12 @@ went_nearer catalog count old new tx action answer who view after tells made is_
 
 pub stepped_nearer : (catalog : Catalog) (count : ℕ) (old new : Progress) (tx tx_new : TxState) (port after : PortView) (tells : ProgramTold) → IsReady catalog count port.shards tx old
     → Stepped catalog old tx port tells new tx_new after → tells ≡ told.More → IsNearer old new
-stepped_nearer catalog count old new tx tx_new port after tells ready (Idle none replied same same_tx_is shown) more = absurd (cc (replied, more))
-stepped_nearer catalog count old new tx tx_new port after tells ready (NoRoom action is replied unasked) more = absurd (cc (replied, more))
-stepped_nearer catalog count old new tx tx_new port after tells ready (Did action answer is asked answered) more =
-    went_nearer catalog count old new tx action answer (session_of tx Main) (port.shards action.shard) (after.shards action.shard) tells ready.made (due_is old action is) asked.acts.acted answered
-    (went catalog tx old action answer tells new answered (more_is_well tells more)) more
+stepped_nearer catalog count old new tx tx_new port after tells ready (Idle none replied same unchanged shown) more = absurd (cc (replied, more))
+stepped_nearer catalog count old new tx tx_new port after tells ready (Full action is full replied unchanged shown) more = absurd (cc (replied, more))
+stepped_nearer catalog count old new tx tx_new port after tells ready (NoRoom action is within replied unasked) more = absurd (cc (replied, more))
+stepped_nearer catalog count old new tx tx_new port after tells ready (Did action answer is within asked answered) more =
+    let on = went_on catalog count old new tx tx_new port after tells action answer ready is asked answered (more_is_well tells more) in
+    went_nearer catalog count old new tx action answer (session_of tx Main) on.done.there (after.shards action.shard) tells ready.made on.due on.done.acted answered on.goes more
 
 went_counted : (catalog : Catalog) (count : ℕ) (old new : Progress) (tx : TxState) (action : Action) (answer : Answer) (who : Who) (view after : View) (tells : ProgramTold) → IsMade catalog count tx.limits.tries old → IsDue old action
     → Acted view who action.act answer after → Answered catalog tx old action answer tells new → Went old action tx.limits.tries new answer → tells ≡ told.More → acts_done new ≡ acts_done old + 1
@@ -208,57 +289,22 @@ went_counted catalog count old new tx action answer who view after tells made is
 
 pub stepped_counted : (catalog : Catalog) (count : ℕ) (old new : Progress) (tx tx_new : TxState) (port after : PortView) (tells : ProgramTold) → IsReady catalog count port.shards tx old
     → Stepped catalog old tx port tells new tx_new after → tells ≡ told.More → acts_done new ≡ acts_done old + 1
-stepped_counted catalog count old new tx tx_new port after tells ready (Idle none replied same same_tx_is shown) more = absurd (cc (replied, more))
-stepped_counted catalog count old new tx tx_new port after tells ready (NoRoom action is replied unasked) more = absurd (cc (replied, more))
-stepped_counted catalog count old new tx tx_new port after tells ready (Did action answer is asked answered) more =
-    went_counted catalog count old new tx action answer (session_of tx Main) (port.shards action.shard) (after.shards action.shard) tells ready.made (due_is old action is) asked.acts.acted answered
-    (went catalog tx old action answer tells new answered (more_is_well tells more)) more
+stepped_counted catalog count old new tx tx_new port after tells ready (Idle none replied same unchanged shown) more = absurd (cc (replied, more))
+stepped_counted catalog count old new tx tx_new port after tells ready (Full action is full replied unchanged shown) more = absurd (cc (replied, more))
+stepped_counted catalog count old new tx tx_new port after tells ready (NoRoom action is within replied unasked) more = absurd (cc (replied, more))
+stepped_counted catalog count old new tx tx_new port after tells ready (Did action answer is within asked answered) more =
+    let on = went_on catalog count old new tx tx_new port after tells action answer ready is asked answered (more_is_well tells more) in
+    went_counted catalog count old new tx action answer (session_of tx Main) on.done.there (after.shards action.shard) tells ready.made on.due on.done.acted answered on.goes more
 
 -- ---- what the next step asks for
 
-pub stepped_made : (catalog : Catalog) (count : ℕ) (old new : Progress) (tx tx_new : TxState) (port after : PortView) (tells : ProgramTold) → IsReady catalog count port.shards tx old
+pub stepped_made : (catalog : Catalog) (count : ℕ) (old new : Progress) (tx tx_new : TxState) (port after : PortView) (tells : ProgramTold) → IsReady catalog count port.shards tx old → IsSameTx tx tx_new
     → Stepped catalog old tx port tells new tx_new after → IsWell tells → IsMade catalog count tx_new.limits.tries new
-stepped_made catalog count old new tx tx_new port after tells ready (Idle none replied same same_tx_is shown) well =
-    subst (λ (t : TxState). IsMade catalog count t.limits.tries new) (sym same_tx_is) (subst (IsMade catalog count tx.limits.tries) (sym same) ready.made)
-stepped_made catalog count old new tx tx_new port after tells ready (NoRoom action is replied unasked) well = ended tells (refused tx old OutOfMemory) replied (λ it. it) well
-stepped_made catalog count old new tx tx_new port after tells ready (Did action answer is asked answered) well =
-    let due_here = due_is old action is in
-    let fits = due_fits catalog count tx.limits.tries old action ready.made due_here in
-    subst (λ (n : ℕ). IsMade catalog count n new) (sym (limits_kept tx tx_new (same_enlisted tx tx_new Main action.shard asked.listed.0 asked.listed.1)))
-    (went_keeps catalog count tx.limits.tries old new action answer (port.shards action.shard) (after.shards action.shard) (session_of tx Main) ready.checked (ready.serves.each action.shard fits.0).placed ready.made due_here
-    asked.acts.acted (went catalog tx old action answer tells new answered well))
-
-pub stepped_sessions : (catalog : Catalog) (count : ℕ) (old new : Progress) (tx tx_new : TxState) (port after : PortView) (tells : ProgramTold) → IsReady catalog count port.shards tx old
-    → Stepped catalog old tx port tells new tx_new after → IsIn tx_new count after.shards
-stepped_sessions catalog count old new tx tx_new port after tells ready (Idle none replied same same_tx_is shown) =
-    subst (λ (t : TxState). IsIn t count after.shards) (sym same_tx_is) (in_same tx count port.shards after.shards ready.sessions (unmoved port after shown))
-stepped_sessions catalog count old new tx tx_new port after tells ready (NoRoom action is replied unasked) =
-    subst (λ (t : TxState). IsIn t count after.shards) (sym unasked.same) (in_same tx count port.shards after.shards ready.sessions unasked.shown)
-stepped_sessions catalog count old new tx tx_new port after tells ready (Did action answer is asked answered) =
-    let fits = due_fits catalog count tx.limits.tries old action ready.made (due_is old action is) in
-    in_acted tx tx_new count port.shards after.shards Main action.shard asked.listed.0 action.act answer ready.sessions asked.listed.1 fits.0 asked.acts.acted asked.room asked.acts.others
-
-pub stepped_same : (catalog : Catalog) (old new : Progress) (tx tx_new : TxState) (port after : PortView) (tells : ProgramTold) → Stepped catalog old tx port tells new tx_new after → IsSameTx tx tx_new
-stepped_same catalog old new tx tx_new port after tells (Idle none replied same same_tx_is shown) = same_from tx tx_new same_tx_is
-stepped_same catalog old new tx tx_new port after tells (NoRoom action is replied unasked) = same_from tx tx_new unasked.same
-stepped_same catalog old new tx tx_new port after tells (Did action answer is asked answered) = same_enlisted tx tx_new Main action.shard asked.listed.0 asked.listed.1
-
-pub stepped_foreign : (catalog : Catalog) (old new : Progress) (tx tx_new : TxState) (port after : PortView) (tells : ProgramTold) (shard : ℕ) (who : Who) → Stepped catalog old tx port tells new tx_new after
-    → who.tx ≢ tx.number → (after.shards shard).sessions who ≡ (port.shards shard).sessions who
-stepped_foreign catalog old new tx tx_new port after tells shard who (Idle none replied same same_tx_is shown) apart = ap (λ (v : View). v.sessions who) (unmoved port after shown shard)
-stepped_foreign catalog old new tx tx_new port after tells shard who (NoRoom action is replied unasked) apart = ap (λ (v : View). v.sessions who) (unasked.shown shard)
-stepped_foreign catalog old new tx tx_new port after tells shard who (Did action answer is asked answered) apart =
-    elim (same_or_other shard action.shard) [
-      | inl at ↦
-          subst (λ (n : ℕ). (after.shards n).sessions who ≡ (port.shards n).sessions who) (sym at)
-          (stranger_acted (port.shards action.shard) (after.shards action.shard) (session_of tx Main) who action.act answer (apart_by_tx (session_of tx Main) who (λ (e : tx.number ≡ who.tx). apart (sym e))) asked.acts.acted)
-      | inr other ↦ ap (λ (v : View). v.sessions who) (asked.acts.others shard other)
-    ]
-
-pub stepped_serves : (catalog : Catalog) (count : ℕ) (old new : Progress) (tx tx_new : TxState) (port after : PortView) (tells : ProgramTold) → IsReady catalog count port.shards tx old
-    → Stepped catalog old tx port tells new tx_new after → Serves catalog count after.shards
-stepped_serves catalog count old new tx tx_new port after tells ready (Idle none replied same same_tx_is shown) = serves_same catalog count port.shards after.shards (unmoved port after shown) ready.serves
-stepped_serves catalog count old new tx tx_new port after tells ready (NoRoom action is replied unasked) = serves_same catalog count port.shards after.shards unasked.shown ready.serves
-stepped_serves catalog count old new tx tx_new port after tells ready (Did action answer is asked answered) =
-    let fits = due_fits catalog count tx.limits.tries old action ready.made (due_is old action is) in
-    serves_acted catalog count port.shards after.shards (session_of tx Main) action.shard action.act answer ready.serves (λ takes. refl) fits.1 asked.acts.acted asked.acts.others
+stepped_made catalog count old new tx tx_new port after tells ready same_tx_is (Idle none replied same unchanged shown) well =
+    subst (λ (n : ℕ). IsMade catalog count n new) (sym (limits_kept tx tx_new same_tx_is)) (subst (IsMade catalog count tx.limits.tries) (sym same) ready.made)
+stepped_made catalog count old new tx tx_new port after tells ready same_tx_is (Full action is full replied unchanged shown) well = ended tells (refused tx old (limit_of_changes tx)) replied (λ it. it) well
+stepped_made catalog count old new tx tx_new port after tells ready same_tx_is (NoRoom action is within replied unasked) well = ended tells (refused tx old OutOfMemory) replied (λ it. it) well
+stepped_made catalog count old new tx tx_new port after tells ready same_tx_is (Did action answer is within asked answered) well =
+    let on = went_on catalog count old new tx tx_new port after tells action answer ready is asked answered well in
+    subst (λ (n : ℕ). IsMade catalog count n new) (sym (limits_kept tx tx_new same_tx_is))
+    (went_keeps catalog count tx.limits.tries old new action answer on.done.there (after.shards action.shard) (session_of tx Main) ready.checked on.placed ready.made on.due on.done.acted on.goes)

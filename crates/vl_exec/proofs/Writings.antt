@@ -22,10 +22,11 @@ use Rattle.vl_port.specs.declared.tx_state.TxState.{TxState}
 use Rattle.vl_port.specs.declared.who.Who.{Who}
 use Rattle.vl_port.specs.Acting.{CanWrite, row_left, written}
 use Rattle.vl_port.specs.Holding.{needs}
+use Rattle.vl_port.specs.Life.{Reaches}
 use Rattle.vl_port.specs.Serving.{Shards}
 use Rattle.vl_port.specs.Transaction.{session_of}
 use Rattle.vl_port.specs.View.{View, Values, standing, version_for}
-use Rattle.vl_port.proofs.Asked.{same_or_other}
+use Rattle.vl_port.proofs.Leaving.{same_or_other}
 use Rattle.vl_port.proofs.Naming.{is_who-same}
 use Rattle.vl_exec.specs.declared.action.Action.{Action}
 use Rattle.vl_exec.specs.declared.search.Search.{Search}
@@ -33,9 +34,9 @@ use Rattle.vl_exec.specs.Changes.{writes_of}
 use Rattle.vl_exec.specs.Effects.{HasWritten, IsWritten}
 use Rattle.vl_exec.specs.Making.{IsInsert, IsMade, IsSearchIn, IsWrite, Precedes, written_key}
 use Rattle.vl_exec.specs.Progress.{Progress, has_read, with_write}
-use Rattle.vl_port.specs.Asking.{ActsOn}
 use Rattle.vl_exec.proofs.Dues.{IsDue, contains_at, done_writes}
 use Rattle.vl_exec.proofs.Goings.{Read, Waited, Went, Wrote}
+use Rattle.vl_exec.proofs.Reached.{IsDone, reached_pending}
 
 -- ---- keys
 
@@ -103,13 +104,17 @@ earlier_apart catalog count (Some search) writes view who m n one other a b is b
 
 -- ---- the shards
 
+-- a write stands on a shard that is reached
+written_reached : (old there : View) (who : Who) (act : Act) → Reaches old there → IsWritten old who act → IsWritten there who act
+written_reached old there who act reached stood key is = reached_pending old there key reached ∙ stood key is
+
 -- a write that was done before stands after another one
-stands_on : (old new : Shards) (who : Who) (action one : Action) (key own : Key) → ActsOn old who action.shard action.act Done new → IsWrite action.act → written_key action.act ≡ Some own → written_key one.act ≡ Some key
+stands_on : (old new : Shards) (who : Who) (action one : Action) (key own : Key) → IsDone old new who action.shard action.act Done → IsWrite action.act → written_key action.act ≡ Some own → written_key one.act ≡ Some key
     → (one.shard ≡ action.shard → is_key own key ≡ false) → (old one.shard).pending key ≡ Some (record { who = who; row = row_left one.act }) → (one.shard ≡ action.shard) ⊎ (one.shard ≢ action.shard)
     → (new one.shard).pending key ≡ Some (record { who = who; row = row_left one.act })
 stands_on old new who action one key own acts write own_is key_is apart stood (inl same) =
     subst (λ (s : ℕ). (old s).pending key ≡ Some (record { who = who; row = row_left one.act }) → (new s).pending key ≡ Some (record { who = who; row = row_left one.act })) (sym same)
-    (λ was. ap (λ (v : View). v.pending key) acts.acted.2 ∙ pending_other (old action.shard) who action.act own key write own_is (apart same) ∙ was) stood
+    (λ was. ap (λ (v : View). v.pending key) acts.acted.2 ∙ pending_other acts.there who action.act own key write own_is (apart same) ∙ reached_pending (old action.shard) acts.there key acts.reached ∙ was) stood
 stands_on old new who action one key own acts write own_is key_is apart stood (inr other) = ap (λ (v : View). v.pending key) (acts.others one.shard other) ∙ stood
 
 pub key_of_write : (act : Act) → IsWrite act → (key : Key) × (written_key act ≡ Some key)
@@ -123,14 +128,14 @@ pub key_or_not : (a b : Key) → (is_key a b ≡ true) ⊎ (is_key a b ≡ false
 key_or_not a b = cases_Bool (is_key a b)
 
 written_more : (catalog : Catalog) (count limit : ℕ) (p : Progress) (action : Action) (tx : TxState) (shard : ℕ) (old new : Shards) → IsMade catalog count limit p → slice_get p.writes p.done ≡ Some action
-    → ActsOn old (session_of tx Main) action.shard action.act Done new → HasWritten old tx p shard → HasWritten new tx (with_write p) shard
+    → IsDone old new (session_of tx Main) action.shard action.act Done → HasWritten old tx p shard → HasWritten new tx (with_write p) shard
 written_more catalog count limit p action tx shard old new made at acts before n one below at_one on =
     subst (λ (s : ℕ). IsWritten (new s) (session_of tx Main) one.act) on
     (elim (same_or_other n p.done) [
       | inl last ↦
           let same : action ≡ one = same_Some action one (sym at ∙ ap (slice_get p.writes) (sym last) ∙ at_one) in
           subst (λ (d : Action). IsWritten (new d.shard) (session_of tx Main) d.act) same
-          (subst (λ (v : View). IsWritten v (session_of tx Main) action.act) (sym acts.acted.2) (pending_own (old action.shard) (session_of tx Main) action.act (made.writes action (contains_at p.writes p.done action at)).write))
+          (subst (λ (v : View). IsWritten v (session_of tx Main) action.act) (sym acts.acted.2) (pending_own acts.there (session_of tx Main) action.act (made.writes action (contains_at p.writes p.done action at)).write))
       | inr earlier ↦
           let less : n < p.done = omega (arith, below, earlier) in
           let stood : IsWritten (old one.shard) (session_of tx Main) one.act = subst (λ (s : ℕ). IsWritten (old s) (session_of tx Main) one.act) (sym on) (before n one less at_one on) in
@@ -141,8 +146,8 @@ written_more catalog count limit p action tx shard old new made at acts before n
           (λ shards. elim (key_or_not own.0 key) [
             | inl same ↦
                 absurd
-                (earlier_apart catalog count p.search p.writes (old action.shard) (session_of tx Main) n p.done one action key own.0 made.search less at_one at key_is own.1 shards
-                (subst (λ (s : ℕ). IsWritten (old s) (session_of tx Main) one.act) shards stood) acts.acted.1 (sym (is_key-true own.0 key same)))
+                (earlier_apart catalog count p.search p.writes acts.there (session_of tx Main) n p.done one action key own.0 made.search less at_one at key_is own.1 shards
+                (written_reached (old action.shard) acts.there (session_of tx Main) one.act acts.reached (subst (λ (s : ℕ). IsWritten (old s) (session_of tx Main) one.act) shards stood)) acts.acted.1 (sym (is_key-true own.0 key same)))
             | inr apart ↦ apart
           ])
           (stood key key_is) (same_or_other one.shard action.shard)
@@ -151,7 +156,7 @@ written_more catalog count limit p action tx shard old new made at acts before n
 -- ---- other answers
 
 -- no answer but `Done` changes a pending version
-pending_stays : (old new : Shards) (who : Who) (action : Action) (answer : Answer) (key : Key) (s : ℕ) → ActsOn old who action.shard action.act answer new → (new action.shard).pending key ≡ (old action.shard).pending key
+pending_stays : (old new : Shards) (who : Who) (action : Action) (answer : Answer) (key : Key) (s : ℕ) → IsDone old new who action.shard action.act answer → (new action.shard).pending key ≡ (old action.shard).pending key
     → (new s).pending key ≡ (old s).pending key
 pending_stays old new who action answer key s acts same =
     elim (same_or_other s action.shard) [
@@ -159,7 +164,7 @@ pending_stays old new who action answer key s acts same =
       | inr other ↦ ap (λ (v : View). v.pending key) (acts.others s other)
     ]
 
-read_stays : (old new : Shards) (tx : TxState) (p : Progress) (action : Action) (answer : Answer) (shard : ℕ) → ((key : Key) → (new action.shard).pending key ≡ (old action.shard).pending key) → ActsOn old (session_of tx Main) action.shard action.act answer new
+read_stays : (old new : Shards) (tx : TxState) (p : Progress) (action : Action) (answer : Answer) (shard : ℕ) → ((key : Key) → (new action.shard).pending key ≡ (old action.shard).pending key) → IsDone old new (session_of tx Main) action.shard action.act answer
     → HasWritten old tx p shard → HasWritten new tx p shard
 read_stays old new tx p action answer shard same acts before n one below at on key key_is = pending_stays old new (session_of tx Main) action answer key shard acts (same key) ∙ before n one below at on key key_is
 
@@ -179,12 +184,12 @@ same_tx seen tx new p shard same before n one below at on = subst (λ (w : Who).
 -- ---- the whole
 
 pub went_written : (catalog : Catalog) (count limit : ℕ) (p new : Progress) (action : Action) (answer : Answer) (tx : TxState) (shard : ℕ) (old after : Shards) → IsMade catalog count limit p → IsDue p action
-    → ActsOn old (session_of tx Main) action.shard action.act answer after → Went p action limit new answer → HasWritten old tx p shard → HasWritten after tx new shard
+    → IsDone old after (session_of tx Main) action.shard action.act answer → Went p action limit new answer → HasWritten old tx p shard → HasWritten after tx new shard
 went_written catalog count limit p new action answer tx shard old after made is_due acts (Wrote is) before =
     subst (λ (q : Progress). HasWritten after tx q shard) (sym is)
-    (written_more catalog count limit p action tx shard old after made (done_writes catalog count limit p action (session_of tx Main) (old action.shard) (after action.shard) made is_due acts.acted) acts before)
+    (written_more catalog count limit p action tx shard old after made (done_writes catalog count limit p action (session_of tx Main) acts.there (after action.shard) made is_due acts.acted) acts before)
 went_written catalog count limit p new action answer tx shard old after made is_due acts (Read rows is) before =
     subst (λ (q : Progress). HasWritten after tx q shard) (sym is)
-    (more_known after tx p (option_map_or (λ (search : Search). writes_of search.change action.shard rows) p.search []) (option_map (has_read (length rows)) p.search) 0 shard made.done (read_stays old after tx p action (Rows rows) shard (λ key. ap (λ (v : View). v.pending key) acts.acted.2) acts before))
+    (more_known after tx p (option_map_or (λ (search : Search). writes_of search.change action.shard rows) p.search []) (option_map (has_read (length rows)) p.search) 0 shard made.done (read_stays old after tx p action (Rows rows) shard (λ key. ap (λ (v : View). v.pending key) acts.acted.2 ∙ reached_pending (old action.shard) acts.there key acts.reached) acts before))
 went_written catalog count limit p new action answer tx shard old after made is_due acts (Waited by key is below) before =
-    subst (λ (q : Progress). HasWritten after tx q shard) (sym is) (read_stays old after tx p action (Held by key) shard (λ k. ap (λ (v : View). v.pending k) acts.acted.1) acts before)
+    subst (λ (q : Progress). HasWritten after tx q shard) (sym is) (read_stays old after tx p action (Held by key) shard (λ k. ap (λ (v : View). v.pending k) acts.acted.1 ∙ reached_pending (old action.shard) acts.there k acts.reached) acts before)

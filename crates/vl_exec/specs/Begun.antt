@@ -1,6 +1,7 @@
 -- What the program of a plan begins with.
 use Rattle.std.specs.Prelude.{ℕ, Bool, true, false, ◌==◌, ◌&&◌, List, [], length, map, slice_get, unwrap_or, Some, None}
 use Rattle.std.specs.Option.{option_map_or}
+use Rattle.vl_values.specs.declared.group.Group.TheVariants.{Main}
 use Rattle.vl_values.specs.declared.key.Key.{Key}
 use Rattle.vl_values.specs.declared.pred.Pred.{Pred}
 use Rattle.vl_values.specs.declared.value.Value.{Value}
@@ -29,7 +30,7 @@ abbrev pub target_of : Catalog → ℕ → List Value → Target
 target_of catalog number row = record { shard = unwrap_or (place catalog number row) 0; key = key_in catalog number row }
 
 abbrev pub insertion_at : Target → List Value → Action
-insertion_at target row = record { shard = target.shard; act = Insert target.key row; old = None }
+insertion_at target row = record { group = Main; shard = target.shard; act = Insert target.key row; old = None }
 
 -- a row is inserted on its place
 abbrev pub insertion : Catalog → ℕ → List Value → Action

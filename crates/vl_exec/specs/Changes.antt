@@ -2,6 +2,7 @@
 use Rattle.std.specs.Prelude.{ℕ, List, fold, Option, Some, None, if◌then◌else◌}
 use Rattle.std.specs.List.{filter_map, slice_set}
 use Rattle.std.specs.Ordering.{is_eq}
+use Rattle.vl_values.specs.declared.group.Group.TheVariants.{Main}
 use Rattle.vl_values.specs.declared.key.Key.{Key}
 use Rattle.vl_values.specs.declared.value.Value.{Value}
 use Rattle.vl_values.specs.Row.{row_cmp}
@@ -20,11 +21,11 @@ with_settings settings row = fold with_setting row settings
 
 -- a row that stays equal isn't written
 abbrev pub put_of : ℕ → Key → List Value → List Value → Option Action
-put_of shard key old new = if is_eq (row_cmp new old) then None else Some (record { shard = shard; act = Put key new; old = Some old })
+put_of shard key old new = if is_eq (row_cmp new old) then None else Some (record { group = Main; shard = shard; act = Put key new; old = Some old })
 
 -- the write of a row that was found on a shard, if there is one
 abbrev pub write_of : RowChange → ℕ → Key × List Value → Option Action
-write_of Remove shard found = Some (record { shard = shard; act = RemoveAct found.0; old = Some found.1 })
+write_of Remove shard found = Some (record { group = Main; shard = shard; act = RemoveAct found.0; old = Some found.1 })
 write_of (Set settings) shard found = put_of shard found.0 found.1 (with_settings settings found.1)
 
 -- the writes of all rows that were found on a shard, in their order

@@ -52,6 +52,7 @@ abbrev pub LeavesOpen : ProgramTold → Type 0
 LeavesOpen told.More = ⊥
 LeavesOpen (told.Held by key tries) = ⊥
 LeavesOpen (told.Reply (replies.Ok affected found warnings tx auto)) = ⊥
+LeavesOpen (told.Reply (replies.Rows columns rows tx auto)) = ⊥
 LeavesOpen (told.Reply (replies.Err code why tx)) = tx ≡ true
 
 -- the transaction's sessions have the pending versions that they had

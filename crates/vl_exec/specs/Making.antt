@@ -1,6 +1,7 @@
 -- What each program keeps that was made from a plan that fits the catalog.
 use Rattle.std.specs.Prelude.{◌≡◌, ◌<◌, ◌≤◌, ◌⊎◌, ℕ, true, List, length, slice_get, Option, Some, None, Contains}
 use Rattle.std.specs.List.{AllPairs}
+use Rattle.vl_values.specs.declared.group.Group.TheVariants.{Main}
 use Rattle.vl_values.specs.declared.key.Key.{Key}
 use Rattle.vl_values.specs.declared.pred.Pred.{Pred}
 use Rattle.vl_values.specs.Keyed.{comes_before}
@@ -41,8 +42,9 @@ written_key (Remove key) = Some key
 written_key (RemoveIf key column value) = Some key
 written_key (Find pred locking) = None
 
--- a write that the catalog allows on its shard
+-- a write of the main session that the catalog allows on its shard
 pub record IsAction (catalog : Catalog) (count : ℕ) (action : Action) : Type 0 where
+  pub group : action.group ≡ Main
   pub shard : action.shard < count
   pub write : IsWrite action.act
   pub fits : IsActOn catalog action.shard action.act

@@ -1,6 +1,7 @@
 -- How far a statement has come: the action that is due, and what is left after one.
 use Rattle.std.specs.Prelude.{◌≡◌, ◌<◌, ◌⊎◌, ℕ, ◌+◌, ◌-◌, Bool, true, List, [], ◌++◌, length, slice_get, Option, Some, None}
 use Rattle.std.specs.Option.{option_map, option_map_or, option_or}
+use Rattle.vl_values.specs.declared.group.Group.TheVariants.{Main}
 use Rattle.vl_values.specs.declared.key.Key.{Key}
 use Rattle.vl_values.specs.declared.value.Value.{Value}
 use Rattle.vl_exec.specs.declared.action.Action.{Action}
@@ -18,9 +19,9 @@ pub record Progress : Type 0 where
   pub wrote : Bool
   pub tries : ℕ
 
--- the next locking read
+-- the next locking read, by the main session of its shard
 abbrev pub read_due : Search → Option Action
-read_due search = option_map (λ shard. record { shard = shard; act = search.find; old = None }) (slice_get search.shards search.read)
+read_due search = option_map (λ shard. record { group = Main; shard = shard; act = search.find; old = None }) (slice_get search.shards search.read)
 
 abbrev pub read_due_in : Option Search → Option Action
 read_due_in None = None

@@ -10,6 +10,7 @@ use std::alloc::{AllocError, Global};
 use vl_plan::setting::Setting;
 use vl_port::act::Act;
 use vl_values::ShardNo;
+use vl_values::group::Group;
 use vl_values::key::Key;
 use vl_values::row::Row;
 use vl_values::value::Value;
@@ -45,6 +46,7 @@ fn put_of(
         return Ok(None);
     }
     Ok(Some(Action {
+        group: Group::Main,
         shard,
         act: Act::Put { key, row: new },
         old: Some(old),
@@ -62,6 +64,7 @@ fn write_of(
     let (key, row) = found;
     match change {
         RowChange::Remove => Ok(Some(Action {
+            group: Group::Main,
             shard,
             act: Act::Remove { key },
             old: Some(row),

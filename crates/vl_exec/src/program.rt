@@ -1,17 +1,18 @@
-ghost use Rattle.std.specs.Prelude.{◌≡◌, ◌≢◌, ◌<◌, ◌≤◌, ◌+◌, ◌^◌, ◌⊎◌, true, false, ℕ, [], IfErr, IfOk, OnOk, OnErr, length};
+ghost use Rattle.std.specs.Prelude.{◌≡◌, ◌<◌, ◌≤◌, ◌+◌, ◌⊎◌, true, false, ℕ, [], IfErr, IfOk, OnOk, OnErr, length};
 ghost use Rattle.std.specs.Option.{option_copied, option_map};
 ghost use Rattle.vl_values.specs.declared.cause.Cause.TheVariants as causes;
 ghost use Rattle.vl_port.specs.declared.answer.Answer.TheVariants as answers;
-ghost use Rattle.vl_port.specs.declared.who.Who.{Who as AWho};
 ghost use Rattle.vl_exec.specs.declared.action.Action.{Action as AnAction};
 ghost use Rattle.vl_exec.specs.declared.program_told.ProgramTold.TheVariants.{More};
 ghost use Rattle.vl_rules.specs.Order.{Checked};
 ghost use Rattle.vl_plan.specs.Fits.{Fits};
-ghost use Rattle.vl_port.specs.Asking.{IsSameTx};
+ghost use Rattle.vl_port.specs.Asking.{IsSameTx, Lists};
+ghost use Rattle.vl_port.specs.Calls.{IsSamePort};
+ghost use Rattle.vl_port.specs.Others.{LeavesOthers};
 ghost use Rattle.vl_port.specs.Serving.{Serves};
 ghost use Rattle.vl_port.specs.Transaction.{IsIn, last_tx};
 ghost use Rattle.vl_catalog.specs.Place.{shard_count};
-ghost use Rattle.vl_exec.specs.Answering.{Answered, Goes, IsWell, OrNoMemory, Waits, refused, refused_whole, reply_of};
+ghost use Rattle.vl_exec.specs.Answering.{Answered, Goes, IsWell, Waits, is_full, limit_of_changes, refused, refused_whole, reply_of};
 ghost use Rattle.vl_exec.specs.Begun.{begun, can_run, searching, writing};
 ghost use Rattle.vl_exec.specs.Effects.{AreOwed, HasLocksOf, HasPendingOf, HasWritten, LeavesOpen};
 ghost use Rattle.vl_exec.specs.Laying.{HasRoomFor, begun_on};
@@ -37,6 +38,7 @@ use vl_plan::plan::Plan;
 use vl_plan::update_plan::UpdatePlan;
 use vl_port::act::Act;
 use vl_port::answer::Answer;
+use vl_port::asked::Asked;
 use vl_port::asking::ask;
 use vl_port::found_rows::FoundRows;
 use vl_port::port::ShardPort;
@@ -46,6 +48,7 @@ use vl_values::cause::Cause;
 use vl_values::group::Group;
 use vl_values::items::Items;
 use vl_values::key::Key;
+use vl_values::limit::Limit;
 use vl_values::pred::Pred;
 use vl_values::reply::Reply;
 use vl_values::{SessionNo, ShardNo};
@@ -134,6 +137,16 @@ fn begin(plan: Plan, laid: Groundwork) -> Program
     }
 }
 
+// Whether the act is a write that would pass the limit of changes.
+fn is_full(tx: &TxState, act: &Act) -> bool
+    ensures { result ≡ is_full tx.now act.now }
+{
+    match act {
+        Act::Find { .. } => false,
+        _ => tx.changes >= tx.limits.changes,
+    }
+}
+
 fn refusal_whole(why: Cause) -> ProgramTold
     ensures { result ≡ refused_whole why }
 {
@@ -162,17 +175,17 @@ impl Program {
         }
     }
 
-    // The shard of the action that is due.
-    fn due_shard(&self) -> Option<ShardNo>
-        ensures { result ≡ option_map (λ action. action.shard) (due self.now) }
+    // The group and the shard of the session that the action which is due goes by.
+    fn due_session(&self) -> Option<(Group, ShardNo)>
+        ensures { result ≡ option_map (λ action. (action.group, action.shard)) (due self.now) }
     {
         if let Some(search) = &self.search {
             if let Some(shard) = search.shards.as_slice().get(search.read) {
-                return Some(*shard);
+                return Some((Group::Main, *shard));
             }
         }
         match self.writes.as_slice().get(self.done) {
-            Some(action) => Some(action.shard),
+            Some(action) => Some((action.group, action.shard)),
             None => None,
         }
     }
@@ -238,7 +251,7 @@ impl Program {
     fn go(&self, tx: &TxState) -> ProgramTold
         ensures { Goes tx.now self.now result self.now }
     {
-        match self.due_shard() {
+        match self.due_session() {
             Some(_) => ProgramTold::More,
             None => self.reply(tx),
         }
@@ -293,12 +306,24 @@ impl Program {
         self.refused_for(tx, why)
     }
 
+    // The write that is due would pass the limit of changes.
+    fn refused_full(&self, tx: &TxState) -> ProgramTold
+        ensures { result ≡ refused tx.now self.now (limit_of_changes tx.now) }
+    {
+        let limit = Cause::Limit {
+            what: Limit::Changes,
+            count: u64::from(tx.limits.changes),
+        };
+        self.refused(tx, limit)
+    }
+
     // What the port's answer to the action means.
     fn answered(
         &mut self,
         alloc: Global,
         catalog: &Catalog,
         tx: &TxState,
+        group: Group,
         shard: ShardNo,
         answer: Answer,
     ) -> ProgramTold
@@ -306,8 +331,7 @@ impl Program {
         requires tries { self.old.tries < tx.now.limits.tries }
         requires done { answer ≡ answers.Done → self.old.done < length self.old.writes }
         requires changed { answer ≡ answers.Unchanged → ⊥ }
-        requires memory { answer ≡ answers.Memory → ⊥ }
-        ensures { (action : AnAction) → action.shard ≡ shard → Answered catalog.now tx.now self.old action answer result self.new }
+        ensures { (action : AnAction) → action.group ≡ group → action.shard ≡ shard → Answered catalog.now tx.now self.old action answer result self.new }
     {
         match answer {
             Answer::Done => {
@@ -326,13 +350,14 @@ impl Program {
             Answer::Limit { what, count } => self.refused(tx, Cause::Limit { what, count }),
             Answer::Lost(why) => refusal_whole(Cause::LostSession {
                 shard: shard_name(catalog, shard),
-                group: Group::Main,
+                group,
                 why,
             }),
             Answer::Device => refusal_whole(Cause::DeviceFailed {
                 shard: shard_name(catalog, shard),
             }),
-            Answer::Unchanged | Answer::Memory => self.refused(tx, Cause::OutOfMemory),
+            // No write that is done here depends on a value.
+            Answer::Memory | Answer::Unchanged => self.refused(tx, Cause::OutOfMemory),
         }
     }
 
@@ -348,28 +373,35 @@ impl Program {
         requires agree { P.catalog port.old ≡ catalog.now }
         requires number { tx.old.number ≤ last_tx }
         requires made { IsMade catalog.now (P.count port.old) tx.old.limits.tries self.old }
-        ensures stepped { Stepped catalog.now self.old tx.old (record { shards = P.seen port.old; faults = P.faults port.old; carried = P.carried port.old }) result self.new tx.new (record { shards = P.seen port.new; faults = P.faults port.new; carried = P.carried port.new }) }
-        ensures count { P.count port.new ≡ P.count port.old }
-        ensures catalog { P.catalog port.new ≡ P.catalog port.old }
+        ensures stepped { Stepped catalog.now self.old tx.old (P.told port.old) result self.new tx.new (P.told port.new) }
+        ensures port { IsSamePort (P.catalog port.old) (P.count port.old) (P.catalog port.new) (P.count port.new) }
+        ensures tx { IsSameTx tx.old tx.new }
+        ensures sessions { IsIn tx.old (P.count port.old) (P.told port.old).shards → IsIn tx.new (P.count port.new) (P.told port.new).shards }
+        ensures serves { Serves (P.catalog port.old) (P.count port.old) (P.told port.old).shards → Serves (P.catalog port.new) (P.count port.new) (P.told port.new).shards }
+        ensures others { Serves (P.catalog port.old) (P.count port.old) (P.told port.old).shards → LeavesOthers tx.old.number (P.told port.old).shards (P.told port.new).shards }
     {
-        let Some(shard) = self.due_shard() else {
+        let Some((group, shard)) = self.due_session() else {
             return self.reply(tx);
         };
         let Some(act) = self.due_act() else {
             return self.reply(tx);
         };
-        let asked = ask(port, tx, Group::Main, shard, act);
+        if is_full(tx, act) {
+            return self.refused_full(tx);
+        }
+        let asked = ask(port, tx, group, shard, act);
         match asked {
-            Some(answer) => self.answered(alloc, catalog, tx, shard, answer),
-            None => self.refused(tx, Cause::OutOfMemory),
+            Asked::Answered(answer) => self.answered(alloc, catalog, tx, group, shard, answer),
+            Asked::Unlisted => self.refused(tx, Cause::OutOfMemory),
         }
     }
 
     /// Does the action that is due, on one shard, and tells what the statement's state is then.
     ///
     /// After a reply the program is over. A refusal before the first write leaves the transaction with
-    /// its locks, unless it is the statement's own; after it, and where a session was lost or a device
-    /// failed, the reply says that no transaction stays open, and all of it is to be rolled back.
+    /// its locks, unless it is the statement's own. After the first write, and where a session was lost or
+    /// a device failed, the reply says that no transaction stays open: its shard sessions are still to be
+    /// ended, all of them, by the caller.
     pub fn step<P: ShardPort>(
         &mut self,
         alloc: Global,
@@ -379,22 +411,22 @@ impl Program {
     ) -> ProgramTold
         requires checked { Checked catalog.now }
         requires agree { P.catalog port.old ≡ catalog.now }
-        requires serves { Serves catalog.now (P.count port.old) (P.seen port.old) }
-        requires sessions { IsIn tx.old (P.count port.old) (P.seen port.old) }
+        requires serves { Serves catalog.now (P.count port.old) (P.told port.old).shards }
+        requires sessions { IsIn tx.old (P.count port.old) (P.told port.old).shards }
         requires number { tx.old.number ≤ last_tx }
         requires made { IsMade catalog.now (P.count port.old) tx.old.limits.tries self.old }
 
-        // One action, that which was due, its answer, and what that means.
-        ensures stepped { Stepped catalog.now self.old tx.old (record { shards = P.seen port.old; faults = P.faults port.old; carried = P.carried port.old }) result self.new tx.new (record { shards = P.seen port.new; faults = P.faults port.new; carried = P.carried port.new }) }
+        // One action, that which was due, its answer with its cause, and what that means.
+        ensures stepped { Stepped catalog.now self.old tx.old (P.told port.old) result self.new tx.new (P.told port.new) }
 
         // On each shard the statement's writes stand, and so do the rows that it still is to write.
-        ensures written { (shard : ℕ) → HasWritten (P.seen port.old) tx.old self.old shard → IsWell result → HasWritten (P.seen port.new) tx.new self.new shard }
-        ensures owed { (shard : ℕ) → AreOwed (P.seen port.old) tx.old self.old shard → IsWell result → AreOwed (P.seen port.new) tx.new self.new shard }
+        ensures written { (shard : ℕ) → HasWritten (P.told port.old).shards tx.old self.old shard → IsWell result → HasWritten (P.told port.new).shards tx.new self.new shard }
+        ensures owed { (shard : ℕ) → AreOwed (P.told port.old).shards tx.old self.old shard → IsWell result → AreOwed (P.told port.new).shards tx.new self.new shard }
 
         // Before the first write no pending version of the transaction changes, and so it is at a refusal
         // that leaves it open. Its locks stay.
-        ensures kept { LeavesOpen result ⊎ (IsWell result × (self.new.wrote ≡ false)) → HasPendingOf tx.old (P.seen port.old) (P.seen port.new) }
-        ensures locked { LeavesOpen result ⊎ IsWell result → HasLocksOf tx.old (P.seen port.old) (P.seen port.new) }
+        ensures kept { LeavesOpen result ⊎ (IsWell result × (self.new.wrote ≡ false)) → HasPendingOf tx.old (P.told port.old).shards (P.told port.new).shards }
+        ensures locked { LeavesOpen result ⊎ IsWell result → HasLocksOf tx.old (P.told port.old).shards (P.told port.new).shards }
 
         // It comes to its end, by one action after another.
         ensures bound { result ≡ More → IsNearer self.old self.new }
@@ -402,12 +434,12 @@ impl Program {
 
         // What the next step asks for.
         ensures made { IsWell result → IsMade catalog.now (P.count port.new) tx.new.limits.tries self.new }
-        ensures sessions { IsIn tx.new (P.count port.new) (P.seen port.new) }
+        ensures sessions { IsIn tx.new (P.count port.new) (P.told port.new).shards }
         ensures same { IsSameTx tx.old tx.new }
-        // No session of another transaction opens or ends.
-        ensures foreign { (shard : ℕ) (who : AWho) → who.tx ≢ tx.old.number → (P.seen port.new shard).sessions who ≡ (P.seen port.old shard).sessions who }
-        ensures serves { Serves catalog.now (P.count port.new) (P.seen port.new) }
-        ensures agree { P.catalog port.new ≡ catalog.now }
+        ensures serves { Serves catalog.now (P.count port.new) (P.told port.new).shards }
+        ensures port { IsSamePort (P.catalog port.old) (P.count port.old) (P.catalog port.new) (P.count port.new) }
+        // What other transactions have is left to them.
+        ensures others { LeavesOthers tx.old.number (P.told port.old).shards (P.told port.new).shards }
     {
         self.advance(alloc, catalog, port, tx)
     }

@@ -12,6 +12,7 @@ use vl_catalog::Catalog;
 use vl_plan::plan::Plan;
 use vl_port::act::Act;
 use vl_values::TableNo;
+use vl_values::group::Group;
 use vl_values::key::Key;
 use vl_values::row::Row;
 use vl_values::value::Value;
@@ -108,6 +109,7 @@ pub(crate) fn insertions(targets: Vec<Target>, rows: Vec<Row>, actions: Vec<Acti
     for row in rows {
         let Target { shard, key } = left.next().unwrap();
         let action = Action {
+            group: Group::Main,
             shard,
             act: Act::Insert { key, row },
             old: None,

@@ -12,14 +12,16 @@ use crate::program::Program;
 use crate::program_told::ProgramTold;
 use crate::running::can_run;
 use crate::test_catalogs::catalog_n;
-use std::alloc::Global;
+use std::alloc::{AllocError, Global};
 use std::marker::Model;
 use std::test::Fail;
 use vl_catalog::Catalog;
 use vl_plan::planning::plan;
 use vl_port::committed::Committed;
 use vl_port::limits::Limits;
+use vl_port::loss::Loss;
 use vl_port::port::ShardPort;
+use vl_port::script_link::ScriptLink;
 use vl_port::tx_state::TxState;
 use vl_shard::bank::Bank;
 use vl_sql::parse;
@@ -84,7 +86,7 @@ fn begin(client: &mut Client, program: Program)
 fn turn(
     alloc: Global,
     catalog: &Catalog,
-    bank: &mut Bank,
+    bank: &mut Bank<ScriptLink>,
     client: &mut Client,
 ) -> Option<ProgramTold>
     requires checked { Checked catalog.now }
@@ -104,7 +106,7 @@ fn turn(
 }
 
 // Commits the client's session that was listed last, and strikes it off; None where none is listed.
-fn commit(bank: &mut Bank, client: &mut Client) -> Option<(ShardNo, Committed)>
+fn commit(bank: &mut Bank<ScriptLink>, client: &mut Client) -> Option<(ShardNo, Committed)>
     requires serves { Serves bank.old.catalog (count_of bank.old) (seen_of bank.old) }
     requires client { IsClient bank.old.catalog (seen_of bank.old) client.old }
     ensures agree { bank.new.catalog ≡ bank.old.catalog }
@@ -119,11 +121,43 @@ fn commit(bank: &mut Bank, client: &mut Client) -> Option<(ShardNo, Committed)>
     Some((shard, committed))
 }
 
+// Ends the client's session that was listed last, and strikes it off; None where none is listed.
+fn close(bank: &mut Bank<ScriptLink>, client: &mut Client) -> Option<ShardNo>
+    requires serves { Serves bank.old.catalog (count_of bank.old) (seen_of bank.old) }
+    requires client { IsClient bank.old.catalog (seen_of bank.old) client.old }
+    ensures agree { bank.new.catalog ≡ bank.old.catalog }
+    ensures serves { Serves bank.new.catalog (count_of bank.new) (seen_of bank.new) }
+    ensures client { IsClient bank.old.catalog (seen_of bank.new) client.new }
+    ensures number { client.new.0.number ≡ client.old.0.number }
+    ensures foreign { (shard : ℕ) (who : AWho) → who.tx ≢ client.old.0.number → (seen_of bank.new shard).sessions who ≡ (seen_of bank.old shard).sessions who }
+{
+    let shard = *client.0.main.as_slice().last()?;
+    bank.close(client.0.who(Group::Main), shard);
+    client.0.strike(Group::Main);
+    Some(shard)
+}
+
+// A link to two shards that plays a loss on each, where one is given.
+fn link_with(
+    alloc: Global,
+    first: Option<Loss>,
+    second: Option<Loss>,
+) -> Result<ScriptLink, AllocError> {
+    let mut link = ScriptLink::new(alloc, 2)?;
+    if let Some(loss) = first {
+        link.arm(0, loss);
+    }
+    if let Some(loss) = second {
+        link.arm(1, loss);
+    }
+    Ok(link)
+}
+
 /// Transactions side by side on the shards of one catalog.
 #[derive(Drop)]
 pub(crate) struct Stage {
     catalog: Catalog,
-    bank: Bank,
+    bank: Bank<ScriptLink>,
     clients: Vec<Client>,
 }
 
@@ -140,13 +174,18 @@ impl Model for Stage {
 }
 
 impl Stage {
-    /// Two empty shards, and nobody on them.
-    pub(crate) fn new(alloc: Global) -> Result<Stage, Fail> {
+    /// Two empty shards, and nobody on them. The link plays a loss on each of them, where one is given.
+    pub(crate) fn new(
+        alloc: Global,
+        first: Option<Loss>,
+        second: Option<Loss>,
+    ) -> Result<Stage, Fail> {
         let catalog = catalog_n(alloc)?;
         let Some(2) = catalog.shard_count() else {
             return Err("two shards".into());
         };
-        let bank = Bank::new(alloc, &catalog)?;
+        let link = link_with(alloc, first, second)?;
+        let bank = Bank::new(alloc, &catalog, link)?;
         Ok(Stage {
             catalog,
             bank,
@@ -203,6 +242,22 @@ impl Stage {
         commit(&mut self.bank, &mut self.clients[place])
     }
 
+    /// Ends the client's session that was listed last, and tells its shard; None where none is left.
+    pub(crate) fn close_last(&mut self, place: usize) -> Option<ShardNo> {
+        if place >= self.clients.len() {
+            return None;
+        }
+        close(&mut self.bank, &mut self.clients[place])
+    }
+
+    /// Kills the main session of a client session on a shard; false where there is none.
+    pub(crate) fn drop_session(&mut self, session: SessionNo, shard: ShardNo) -> bool {
+        if shard as usize >= self.bank.len() {
+            return false;
+        }
+        self.bank.drop_session(session, Group::Main, shard)
+    }
+
     /// The shards of the client's sessions, in the order of first use.
     pub(crate) fn listed(&self, place: usize) -> &[ShardNo] {
         match self.clients.as_slice().get(place) {
@@ -211,8 +266,16 @@ impl Stage {
         }
     }
 
-    /// How many acts and commits were carried.
-    pub(crate) fn carried(&self) -> u64 {
-        self.bank.carried()
+    /// How many acts and commits were carried to a shard.
+    pub(crate) fn carried(&self, shard: ShardNo) -> u64 {
+        if shard as usize >= self.bank.len() {
+            return 0;
+        }
+        self.bank.carried(shard)
+    }
+
+    /// How many messages the link has lost.
+    pub(crate) fn lost(&self) -> u64 {
+        self.bank.link().faults()
     }
 }

@@ -5,6 +5,7 @@ use std::process::Abort;
 use std::test::Fail;
 use vl_port::committed::Committed;
 use vl_port::limits::Limits;
+use vl_port::loss::Loss;
 use vl_values::key::Key;
 use vl_values::reply::Reply;
 use vl_values::row::Row;
@@ -21,6 +22,8 @@ enum Call {
     /// A transaction of this session, with this limit of tries: whether autocommit is on, and whether it is
     /// of a single statement.
     Join(SessionNo, u32, bool, bool),
+    /// A transaction of this session that may make this many changes.
+    JoinFew(SessionNo, u32),
     /// The client's next statement.
     Say(usize, &'static str),
     /// A step after which another action is due.
@@ -31,10 +34,16 @@ enum Call {
     Reply(usize, &'static str),
     /// The client's session that was listed last, on this shard, is committed.
     Commit(usize, ShardNo),
+    /// It is ended without a commit.
+    Close(usize, ShardNo),
+    /// The session that this client session has open on a shard is killed.
+    Drop(SessionNo, ShardNo),
     /// The shards of the client's sessions, in the order of first use.
     Listed(usize, &'static [ShardNo]),
-    /// How many acts and commits were carried.
-    Carried(u64),
+    /// How many acts and commits were carried to a shard.
+    Carried(ShardNo, u64),
+    /// How many messages the link has lost.
+    Lost(u64),
 }
 
 fn limits(tries: u32) -> Limits {
@@ -132,18 +141,41 @@ fn done(rt: &impl Abort, alloc: Global, stage: &mut Stage, call: Call) -> Result
         Call::Commit(client, shard) => {
             assert_eq!(rt; stage.commit_last(client), Some((shard, Committed::Done)));
         }
+        Call::JoinFew(session, changes) => {
+            let few = Limits {
+                changes,
+                ..limits(100)
+            };
+            stage.join(alloc, session, few, true, false)?;
+        }
+        Call::Close(client, shard) => assert_eq!(rt; stage.close_last(client), Some(shard)),
+        Call::Drop(session, shard) => {
+            assert!(rt; stage.drop_session(session, shard), "a live session");
+        }
         Call::Listed(client, shards) => assert_eq!(rt; stage.listed(client), shards),
-        Call::Carried(count) => assert_eq!(rt; stage.carried(), count),
+        Call::Carried(shard, count) => assert_eq!(rt; stage.carried(shard), count),
+        Call::Lost(count) => assert_eq!(rt; stage.lost(), count),
+    }
+    Ok(())
+}
+
+// The losses are those that the link plays on the first and on the second shard.
+fn play_over(
+    rt: &impl Abort,
+    alloc: Global,
+    first: Option<Loss>,
+    second: Option<Loss>,
+    calls: &[Call],
+) -> Result<(), Fail> {
+    let mut stage = Stage::new(alloc, first, second)?;
+    for call in calls {
+        done(rt, alloc, &mut stage, *call)?;
     }
     Ok(())
 }
 
 fn play(rt: &impl Abort, alloc: Global, calls: &[Call]) -> Result<(), Fail> {
-    let mut stage = Stage::new(alloc)?;
-    for call in calls {
-        done(rt, alloc, &mut stage, *call)?;
-    }
-    Ok(())
+    play_over(rt, alloc, None, None, calls)
 }
 
 static WAITS: [Call; 14] = [
@@ -166,10 +198,10 @@ static WAITS: [Call; 14] = [
     Call::More(1),
     Call::Reply(1, "OK 1 of 1, warnings 0, open true, autocommit true"),
     // An insert, two tries of each delete, a commit and a removal.
-    Call::Carried(7),
+    Call::Carried(0, 7),
 ];
 
-static SEVERAL_VALUES: [Call; 13] = [
+static SEVERAL_VALUES: [Call; 14] = [
     Call::Join(1, 100, true, false),
     Call::Say(0, "INSERT INTO n(id,v) VALUES(1,5),(2,5)"),
     Call::More(0),
@@ -183,7 +215,8 @@ static SEVERAL_VALUES: [Call; 13] = [
     Call::More(0),
     Call::More(0),
     Call::Reply(0, "OK 1 of 1, warnings 0, open true, autocommit true"),
-    Call::Carried(7),
+    Call::Carried(0, 6),
+    Call::Carried(1, 1),
 ];
 
 static UPDATES: [Call; 24] = [
@@ -260,6 +293,102 @@ static SINGLE: [Call; 11] = [
     Call::Listed(2, &[]),
 ];
 
+// The second message to the first shard is lost on its way.
+static LOST_BEFORE: [Call; 11] = [
+    Call::Join(1, 100, true, false),
+    Call::Join(2, 100, true, false),
+    Call::Say(0, "INSERT INTO n(id,v) VALUES(1,5),(2,5)"),
+    Call::More(0),
+    Call::Reply(
+        0,
+        "ERR 1105 Lost commerce/-80 main session (link), open false",
+    ),
+    // The first row fell away and its lock with it, before the session was ended.
+    Call::Say(1, "INSERT INTO n(id,v) VALUES(1,5)"),
+    Call::Reply(1, "OK 1 of 1, warnings 0, open true, autocommit true"),
+    Call::Listed(0, &[0]),
+    Call::Close(0, 0),
+    Call::Carried(0, 3),
+    Call::Lost(1),
+];
+
+// The answer to the third message to the first shard is lost, and that to the first to the second shard.
+static LOST_AFTER: [Call; 26] = [
+    Call::Join(1, 100, true, false),
+    Call::Join(2, 100, true, false),
+    Call::Join(3, 100, true, false),
+    Call::Say(0, "INSERT INTO n(id,v) VALUES(1,5)"),
+    Call::Reply(0, "OK 1 of 1, warnings 0, open true, autocommit true"),
+    Call::Commit(0, 0),
+    // The locking read was done, but the row that it took isn't held.
+    Call::Say(1, "UPDATE n SET v=6 WHERE id=1"),
+    Call::Reply(
+        1,
+        "ERR 1105 Lost commerce/-80 main session (link), open false",
+    ),
+    Call::Close(1, 0),
+    Call::Say(2, "UPDATE n SET v=7 WHERE id=1"),
+    Call::More(2),
+    Call::Reply(2, "OK 1 of 1, warnings 0, open true, autocommit true"),
+    // The second row was written, and fell away; the first one has to be rolled back.
+    Call::Join(4, 100, true, false),
+    Call::Join(5, 100, true, false),
+    Call::Say(3, "INSERT INTO n(id,v) VALUES(2,5),(9223372036854775808,5)"),
+    Call::More(3),
+    Call::Reply(
+        3,
+        "ERR 1105 Lost commerce/80- main session (link), open false",
+    ),
+    Call::Listed(3, &[0, 1]),
+    Call::Say(4, "INSERT INTO n(id,v) VALUES(9223372036854775808,6),(2,6)"),
+    Call::More(4),
+    Call::Held(4, 4, 2),
+    Call::Close(3, 1),
+    Call::Close(3, 0),
+    Call::Reply(4, "OK 2 of 2, warnings 0, open true, autocommit true"),
+    Call::Carried(0, 8),
+    Call::Lost(2),
+];
+
+static DROPPED: [Call; 10] = [
+    Call::Join(1, 100, true, false),
+    Call::Join(2, 100, true, false),
+    Call::Say(0, "INSERT INTO n(id,v) VALUES(1,5)"),
+    Call::Reply(0, "OK 1 of 1, warnings 0, open true, autocommit true"),
+    Call::Drop(1, 0),
+    Call::Say(1, "DELETE FROM n WHERE id=1"),
+    Call::Reply(1, "OK 0 of 0, warnings 0, open true, autocommit true"),
+    // This statement has written nothing, and yet nothing stays open.
+    Call::Say(0, "DELETE FROM n WHERE id=2"),
+    Call::Reply(
+        0,
+        "ERR 1105 Lost commerce/-80 main session (dropped), open false",
+    ),
+    Call::Close(0, 0),
+];
+
+static CHANGES: [Call; 16] = [
+    Call::JoinFew(1, 2),
+    Call::JoinFew(2, 1),
+    Call::Say(0, "INSERT INTO n(id,v) VALUES(1,5),(2,5)"),
+    Call::More(0),
+    Call::Reply(0, "OK 2 of 2, warnings 0, open true, autocommit true"),
+    Call::Say(0, "INSERT INTO n(id,v) VALUES(3,5)"),
+    Call::Reply(0, "ERR 1105 Limit of changes reached: 2, open true"),
+    // No shard was asked.
+    Call::Carried(0, 2),
+    // A read is no change, and a row that stays equal isn't written.
+    Call::Say(0, "UPDATE n SET v=5 WHERE id=1"),
+    Call::Reply(0, "OK 0 of 1, warnings 0, open true, autocommit true"),
+    // The second row is one too many, so the first one is to be rolled back.
+    Call::Say(1, "INSERT INTO n(id,v) VALUES(3,5),(4,5)"),
+    Call::More(1),
+    Call::Reply(1, "ERR 1105 Limit of changes reached: 1, open false"),
+    Call::Listed(1, &[0]),
+    Call::Close(1, 0),
+    Call::Carried(0, 4),
+];
+
 #[test]
 fn a_delete_waits_for_the_insert_of_its_row_until_its_limit(rt: HostRuntime) -> Result<(), Fail> {
     play(&rt, rt.alloc(), &WAITS)
@@ -285,4 +414,36 @@ fn a_duplicate_ends_the_transaction_after_a_write(rt: HostRuntime) -> Result<(),
 #[test]
 fn a_transaction_of_one_statement_is_never_left_open(rt: HostRuntime) -> Result<(), Fail> {
     play(&rt, rt.alloc(), &SINGLE)
+}
+
+#[test]
+fn a_write_that_is_lost_rolls_its_transaction_back(rt: HostRuntime) -> Result<(), Fail> {
+    let second = Loss {
+        nth: 2,
+        after: false,
+    };
+    play_over(&rt, rt.alloc(), Some(second), None, &LOST_BEFORE)
+}
+
+#[test]
+fn an_action_whose_answer_is_lost_rolls_its_transaction_back(rt: HostRuntime) -> Result<(), Fail> {
+    let third = Loss {
+        nth: 3,
+        after: true,
+    };
+    let first = Loss {
+        nth: 1,
+        after: true,
+    };
+    play_over(&rt, rt.alloc(), Some(third), Some(first), &LOST_AFTER)
+}
+
+#[test]
+fn a_dropped_session_is_told_at_its_next_use(rt: HostRuntime) -> Result<(), Fail> {
+    play(&rt, rt.alloc(), &DROPPED)
+}
+
+#[test]
+fn a_write_past_the_limit_of_changes_is_refused(rt: HostRuntime) -> Result<(), Fail> {
+    play(&rt, rt.alloc(), &CHANGES)
 }

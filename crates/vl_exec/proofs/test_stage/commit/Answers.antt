@@ -1,7 +1,7 @@
 use Rattle.std.proofs.Common.{◌-◌, ℕ, List, length, ap, sym, ◌∙◌}
 use Rattle.std.specs.Prelude.{slice_get}
 use Rattle.vl_shard.specs.Banks.{count_of, seen_of}
-use Rattle.vl_exec.proofs.Staged.{client_committed, foreign_committed, last_within, struck_number}
+use Rattle.vl_exec.proofs.Staged.{client_ended, committed_ends, foreign_ended, last_within, struck_number}
 use Rattle.vl_exec.proofs.test_stage.commit.Goals as goal
 
 pub commit-committed-requires : goal.commit-committed-requires
@@ -11,14 +11,13 @@ commit-committed-requires c =
 
 pub returns-clause-client : goal.returns-clause-client
 returns-clause-client c =
-    client_committed c.args.bank.now.catalog (seen_of c.args.bank.now) (seen_of c.commit-committed.new.self) c.args.client.now c.strike.new.self c.who.result c.in_ok-shard.field-0.now c.commit-committed.result c.requires.client
-    (sym (c.in_ok-shard.ensures.value ∙ ap (λ (xs : List ℕ). slice_get xs (length xs - 1)) c.as_slice.ensures)) c.strike.ensures c.who.ensures c.commit-committed.ensures.settled c.commit-committed.ensures.others
+    client_ended c.args.bank.now.catalog (seen_of c.args.bank.now) (seen_of c.commit-committed.new.self) c.args.client.now c.strike.new.self c.who.result c.in_ok-shard.field-0.now c.requires.client
+    (sym (c.in_ok-shard.ensures.value ∙ ap (λ (xs : List ℕ). slice_get xs (length xs - 1)) c.as_slice.ensures)) c.strike.ensures.struck c.who.ensures (committed_ends c.commit-committed.ensures.commits)
 
 pub returns-clause-number : goal.returns-clause-number
 returns-clause-number c =
-    struck_number c.args.client.now.0 c.strike.new.self c.in_ok-shard.field-0.now (sym (c.in_ok-shard.ensures.value ∙ ap (λ (xs : List ℕ). slice_get xs (length xs - 1)) c.as_slice.ensures)) c.strike.ensures
+    struck_number c.args.client.now.0 c.strike.new.self c.in_ok-shard.field-0.now (sym (c.in_ok-shard.ensures.value ∙ ap (λ (xs : List ℕ). slice_get xs (length xs - 1)) c.as_slice.ensures)) c.strike.ensures.struck
 
 pub returns-clause-foreign : goal.returns-clause-foreign
 returns-clause-foreign c =
-    foreign_committed (seen_of c.args.bank.now) (seen_of c.commit-committed.new.self) c.args.client.now.0 c.who.result c.in_ok-shard.field-0.now c.commit-committed.result c.who.ensures c.commit-committed.ensures.settled
-    c.commit-committed.ensures.others
+    foreign_ended (seen_of c.args.bank.now) (seen_of c.commit-committed.new.self) c.args.client.now.0 c.who.result c.in_ok-shard.field-0.now c.who.ensures (committed_ends c.commit-committed.ensures.commits)

@@ -24,4 +24,4 @@ pub returns-clause-number : goal.returns-clause-number
 returns-clause-number c = c.step-told.ensures.same.number
 
 pub returns-clause-foreign : goal.returns-clause-foreign
-returns-clause-foreign c = c.step-told.ensures.foreign
+returns-clause-foreign c = c.step-told.ensures.others.sessions

@@ -11,7 +11,7 @@ invariant_of-result c =
     let catalog = c.in_ok-catalog.catalog in
     let bank = c.in_ok-bank.bank in (
       subst (λ (clients : List Client). AreClients catalog (count_of bank) (seen_of bank) clients) (sym c.new-2.ensures.items)
-          (nobody catalog (count_of bank) (seen_of bank) c.in_ok-catalog.ensures (subst (λ (it : Catalog). Serves it (count_of bank) (seen_of bank)) c.in_ok-bank.ensures.catalog c.in_ok-bank.ensures.serves)
+          (nobody catalog (count_of bank) (seen_of bank) c.in_ok-catalog.ensures (subst (λ (it : Catalog). Serves it (count_of bank) (seen_of bank)) c.in_ok-bank.ensures.fresh.catalog c.in_ok-bank.ensures.serves)
           (λ shard who within. (c.in_ok-bank.ensures.new.empty shard within).sessions who)),
-      c.in_ok-bank.ensures.catalog,
+      c.in_ok-bank.ensures.fresh.catalog,
     )

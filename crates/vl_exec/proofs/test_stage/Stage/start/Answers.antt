@@ -1,4 +1,4 @@
-use Rattle.std.proofs.Common.{◌≡◌, ◌<◌, List, Some, length, arith, ap, refl, subst, sym}
+use Rattle.std.proofs.Common.{◌≡◌, ◌<◌, Some, length, arith, ap, refl, subst, sym}
 use Rattle.std.proofs.Math.ListN.{set}
 use Rattle.vl_shard.specs.Banks.{count_of, seen_of}
 use Rattle.vl_exec.specs.Staging.{AreClients, Client}
