@@ -8,7 +8,7 @@ use Rattle.std.proofs.lemmas.Nat.{from_le_bytes-to_le_bytes_2, from_le_bytes-to_
 use Rattle.my_packet.proofs.Streams.{announced-header}
 use Rattle.my_reply.specs.Fields.{two_bytes, length_encoded, status_flags, counted}
 use Rattle.my_reply.specs.Reading.{Read, two_at, three_at, eight_at, number_at, ok_at, state_at, err_at, payload_at, whole_at, reply_at, wire_of, Fits}
-use Rattle.my_reply.specs.Reply.{ok_payload, err_payload, reply_payload, reply_bytes, framed}
+use Rattle.my_reply.specs.Reply.{ok_payload, err_payload, reply_bytes, framed}
 use Rattle.my_reply.specs.declared.wire.Wire.{Wire}
 use Rattle.my_reply.specs.declared.wire.Wire.TheVariants as wires
 use Rattle.vl_values.specs.Cause.{sql_state, cause_text}
@@ -102,10 +102,11 @@ text_short why = omega (arith, length-take 512 (flatten (message why)))
 
 pub read_back : (reply : Reply) (caps seq : ℕ) → Fits reply → reply_at (reply_bytes reply caps seq) ≡ Ok (wire_of reply caps)
 read_back (replies.Ok affected found warnings tx auto) caps seq fits =
-    framed_again (reply_payload (replies.Ok affected found warnings tx auto) caps) seq
+    framed_again (ok_payload (counted caps affected found) (status_flags tx auto) warnings) seq
     ∙ ok_again (counted caps affected found) (status_flags tx auto) warnings (counted_fits caps affected found fits.0 fits.1) (status_fits tx auto) fits.2
+read_back (replies.Rows columns rows tx auto) caps seq fits = absurd fits
 read_back (replies.Err code why tx) caps seq fits =
-    framed_again (reply_payload (replies.Err code why tx) caps) seq
+    framed_again (err_payload code (sql_state why) (cause_text why)) seq
     ∙ err_again code (sql_state why) (cause_text why) fits (state_long why) (text_short why)
 
 -- an answer of the code and what is read

@@ -1,5 +1,5 @@
--- The fields of OK and ERR payloads as bytes.
-use Rattle.std.specs.Prelude.{ℕ, ◌+◌, ◌^◌, ◌==◌, bit_and, nat_lt, Bool, if◌then◌else◌, List, [], ◌∷◌}
+-- The fields of payloads as bytes.
+use Rattle.std.specs.Prelude.{ℕ, ◌+◌, ◌^◌, ◌==◌, bit_and, nat_lt, Bool, if◌then◌else◌, List, [], ◌∷◌, ◌++◌, length}
 use Rattle.std.specs.Int.{to_le_bytes, bytes_low_first, w16, w64}
 
 -- a number of two bytes, the low one first
@@ -13,6 +13,10 @@ length_encoded n =
     if nat_lt n (2 ^ 16) then 252 ∷ two_bytes n else
     if nat_lt n (2 ^ 24) then 253 ∷ bytes_low_first 0 3 n else
     254 ∷ to_le_bytes w64 n
+
+-- a text behind its length
+abbrev pub text_bytes : List ℕ → List ℕ
+text_bytes text = length_encoded (length text) ++ text
 
 -- the status flags: in a transaction 1, with autocommit on 2
 abbrev pub status_flags : Bool → Bool → ℕ

@@ -1,3 +1,5 @@
 pub mod Fields
-pub mod Reply
+pub mod Limits
 pub mod Reading
+pub mod Reply
+pub mod ResultSet

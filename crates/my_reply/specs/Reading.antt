@@ -97,12 +97,14 @@ abbrev pub Decodes : List ℕ → Result Wire BadReply → Type 0
 Decodes bytes (Ok wire) = reply_at bytes ≡ Ok wire
 Decodes bytes (Err bad) = (left : ℕ) × (reply_at bytes ≡ Err left) × (bad.at ≡ length bytes - left)
 
--- what is read of a reply
+-- what is read of a reply of one packet
 abbrev pub wire_of : Reply → ℕ → Wire
 wire_of (replies.Ok affected found warnings tx auto) caps = wires.Ok (counted caps affected found) 0 (status_flags tx auto) warnings
+wire_of (replies.Rows columns rows tx auto) caps = wires.Ok 0 0 (status_flags tx auto) 0
 wire_of (replies.Err code why tx) caps = wires.Err code (Some (sql_state why)) (cause_text why)
 
--- the numbers of a reply have 64 and 16 bits
+-- a reply of one packet, whose numbers have 64 and 16 bits
 abbrev pub Fits : Reply → Type 0
 Fits (replies.Ok affected found warnings tx auto) = (affected < 2 ^ 64) × (found < 2 ^ 64) × (warnings < 2 ^ 16)
+Fits (replies.Rows columns rows tx auto) = ⊥
 Fits (replies.Err code why tx) = code < 2 ^ 16

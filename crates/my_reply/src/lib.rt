@@ -1,20 +1,28 @@
-//! Replies of the MySQL client/server protocol as bytes: the OK and ERR packets, as under PROTOCOL_41.
+//! Replies of the MySQL client/server protocol as bytes: OK, ERR and result sets.
 //!
-//! `encode_short` writes such a packet into a `ShortBuf`, which has room for each of them from the day
-//! that it is made, so that a reply is never lost to want of memory. The layer above relies on this: the
-//! buffer then holds exactly the packet of the reply.
+//! `encode` gives the packets of a reply. `encode_short` writes an OK or ERR, as under PROTOCOL_41, into a
+//! `ShortBuf`, which has room for each of them from the day that it is made, so that such a reply is never
+//! lost to want of memory. The layer above relies on this: the bytes are exactly the packets of the reply.
 #![tactic(auto)]
 
-mod encode;
 mod fields;
+mod limits;
 mod reading;
+mod reply_packets;
+mod result_set;
 mod short_buf;
+mod short_reply;
+mod text_fields;
 mod wire;
 
-pub use encode::{FOUND_ROWS, PROTOCOL_41, encode_short};
+pub use limits::is_encodable;
 pub use reading::decode;
+pub use reply_packets::encode;
 pub use short_buf::ShortBuf;
+pub use short_reply::{FOUND_ROWS, PROTOCOL_41, encode_short};
 pub use wire::{BadReply, Wire};
 
+#[cfg(test)]
+mod encode_tests;
 #[cfg(test)]
 mod tests;

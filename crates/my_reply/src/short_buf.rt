@@ -39,6 +39,14 @@ impl ShortBuf {
         self.bytes.as_slice()
     }
 
+    /// Gives the bytes, with no copy.
+    pub(crate) fn into_vec(self) -> Vec<u8>
+        ensures { result.items ≡ self }
+    {
+        let ShortBuf { bytes } = self;
+        bytes
+    }
+
     pub(crate) fn clear(&mut self)
         ensures { self.new ≡ [] }
     {

@@ -4,7 +4,7 @@ use Rattle.std.proofs.lemmas.List.{take_all, append-nil}
 use Rattle.std.proofs.lemmas.List.Elements.{All-contains}
 use Rattle.std.proofs.Math.ListN.{drop_of_length-le}
 use Rattle.vl_values.specs.declared.reply.Reply.{Reply as AReply}
-use Rattle.vl_values.specs.declared.reply.Reply.TheVariants.{Ok, Err}
+use Rattle.vl_values.specs.declared.reply.Reply.TheVariants.{Ok, Err, Rows as ResultSet}
 use Rattle.vl_sql.specs.declared.stmt.Stmt.{Stmt}
 use Rattle.vl_model.specs.Taken.{insert_of}
 use Rattle.vl_model.specs.Steps.{Inserts, Step, Rows, table_rows}
@@ -41,6 +41,7 @@ before_last at apart bound = omega arith
 -- shards that stay as they were show the tables that they showed
 kept_tables : (shards after : List Lists) (reply : AReply) → IfRefused reply (after ≡ shards) → IfRefused reply (tables_of after ≡ tables_of shards)
 kept_tables shards after (Ok affected found warnings tx auto) same = tt
+kept_tables shards after (ResultSet columns rows tx auto) same = tt
 kept_tables shards after (Err code why tx) same = ap tables_of same
 
 rises : (joined : List Session) (at place : ℕ) (pass next : Session) → AreLawful joined at → place < length joined → get_or joined place pass ≡ pass → next ≡ record { number = pass.number; at = at + 1 } → pass.at < next.at

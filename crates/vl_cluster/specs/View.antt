@@ -1,7 +1,7 @@
 -- What contracts see of the core, and what an event does to it.
 use Rattle.std.specs.Prelude.{◌≡◌, ℕ, ◌+◌, ◌<◌, ◌≤◌, ◌⊎◌, List, [], ◌∷◌, ◌++◌, length, remove, slice_index_or, slice_set, Contains}
 use Rattle.vl_values.specs.declared.reply.Reply.{Reply as AReply}
-use Rattle.vl_values.specs.declared.reply.Reply.TheVariants.{Ok, Err}
+use Rattle.vl_values.specs.declared.reply.Reply.TheVariants.{Ok, Rows, Err}
 use Rattle.vl_model.specs.Tables.{Tables}
 use Rattle.vl_model.specs.Steps.{Step, table_rows}
 use Rattle.vl_sql.specs.declared.stmt.Stmt.{Stmt}
@@ -38,6 +38,7 @@ Replaces joined pass next new = (i : ℕ) × (i < length joined) × (slice_index
 -- what holds where a statement is refused
 abbrev pub IfRefused : AReply → Type 0 → Type 0
 IfRefused (Ok affected found warnings tx auto) P = Unit {0}
+IfRefused (Rows columns rows tx auto) P = Unit {0}
 IfRefused (Err code why tx) P = P
 
 -- a statement was answered: a step of the one table, in an event of its own

@@ -41,6 +41,7 @@ fn assert_done(rt: &impl Abort, told: &Told, at: u64) {
             assert_eq!(rt; (*affected, *found, *warnings), (1, 1, 0));
             assert_eq!(rt; (*tx, *auto), (false, true));
         }
+        What::Reply(Reply::Rows { .. }) => assert!(rt; false, "an INSERT has no rows"),
         What::Reply(Reply::Err { why, .. }) => assert_eq!(rt;
             why.text().as_slice(),
             b"".as_slice()
@@ -57,7 +58,7 @@ fn assert_refused(rt: &impl Abort, told: &Told, code: u16, text: &[u8]) {
             assert_eq!(rt; why.text().as_slice(), text);
             assert!(rt; !*tx);
         }
-        What::Reply(Reply::Ok { .. }) => assert!(rt; false, "a value clashes"),
+        What::Reply(Reply::Ok { .. } | Reply::Rows { .. }) => assert!(rt; false, "a value clashes"),
         What::Stray => assert!(rt; false, "the session is joined"),
     }
 }

@@ -1,8 +1,12 @@
 -- Worked rows of the definitions.
-use Rattle.std.proofs.Common.{◌≡◌, ◌-◌, ◌^◌, true, false, [], ◌∷◌, codes, refl, arith, ◌++◌, Contains}
+use Rattle.std.proofs.Common.{◌≡◌, ◌-◌, ◌^◌, true, false, ℕ, negsuc, List, [], ◌∷◌, codes, refl, arith, ◌++◌, Contains}
 use Rattle.std.specs.Fmt.{digits}
 use Rattle.vl_values.specs.declared.cause.Cause.TheVariants.{OutOfMemory}
-use Rattle.vl_values.specs.declared.reply.Reply.TheVariants.{Ok}
+use Rattle.vl_values.specs.declared.col_type.ColType.{ColType}
+use Rattle.vl_values.specs.declared.col_type.ColType.TheVariants.{BigInt, BigUint, VarChar}
+use Rattle.vl_values.specs.declared.reply.Reply.TheVariants.{Ok, Rows}
+use Rattle.vl_values.specs.declared.reply_column.ReplyColumn.{ReplyColumn}
+use Rattle.vl_values.specs.declared.value.Value.TheVariants.{Null, Int, Uint, Bytes}
 use Rattle.vl_values.specs.Reply.{refusal, done}
 use Rattle.vl_model.specs.CatalogA.{numeric, shard_of}
 use Rattle.vl_model.specs.ReplyLine.{reply_line}
@@ -53,6 +57,26 @@ no_memory_line = refl
 pub warned_line : reply_line (codes "s1") (Ok 2 3 4 true false) ≡ codes "s1: OK 2 WARN 4 TX" ++ 10 ∷ []
 unfolding digits
 warned_line = refl
+
+-- a column of no table
+abbrev pub column : List ℕ → ColType → ℕ → ReplyColumn
+column name ty flags = record { schema = []; table = []; name = name; ty = ty; flags = flags }
+
+pub warnings_lines : reply_line (codes "s1")
+    (Rows (column (codes "Level") (VarChar 255) 0 ∷ column (codes "Code") BigUint 33 ∷ column (codes "Message") (VarChar 255) 0 ∷ [])
+    ((Bytes (codes "Warning") ∷ Uint 1105 ∷ Bytes (codes "Post commit failed: lost commerce/-80 (link)") ∷ []) ∷ []) false true)
+    ≡ codes "s1: ROWS 1 (Level, Code, Message)" ++ (10 ∷ codes "s1| 'Warning', 1105, 'Post commit failed: lost commerce/-80 (link)'") ++ 10 ∷ []
+unfolding digits
+warnings_lines = refl
+
+pub rows_lines : reply_line (codes "s1") (Rows (column (codes "a") BigInt 0 ∷ column (codes "b") (VarChar 4) 0 ∷ []) ((Int (negsuc 2) ∷ Null ∷ []) ∷ (Null ∷ Bytes (codes "a b") ∷ []) ∷ []) true false)
+    ≡ codes "s1: ROWS 2 (a, b) TX" ++ (10 ∷ codes "s1| -3, NULL") ++ (10 ∷ codes "s1| NULL, 'a b'") ++ 10 ∷ []
+unfolding digits
+rows_lines = refl
+
+pub no_rows_line : reply_line (codes "s2") (Rows (column (codes "id") BigUint 0 ∷ []) [] false true) ≡ codes "s2: ROWS 0 (id)" ++ 10 ∷ []
+unfolding digits
+no_rows_line = refl
 
 -- ---- steps of the one table
 

@@ -5,6 +5,8 @@ use Rattle.vl_sql.specs.declared.stmt.Stmt.{Stmt}
 use Rattle.vl_cluster.specs.View.{View, Joins, Acted, Leaves, last_event}
 use Rattle.vl_cluster.specs.declared.session.Session.{Session}
 use Rattle.vl_cluster.specs.declared.what.What.{What}
+use Rattle.vl_cluster.specs.declared.what.What.TheVariants.{Reply, Stray}
+use Rattle.my_reply.specs.Reply.{IsShort}
 
 -- what a session does: it joins and gets its pass, says a statement by its pass and is told an answer with the
 -- next pass, or leaves
@@ -48,6 +50,11 @@ abbrev pub Ran : Option View → List Deed → Option View → Type 0
 Ran None deeds new = Unit {0}
 Ran (Some old) deeds None = ⊥
 Ran (Some old) deeds (Some new) = (events : List Event) × Run old events new × (own_deeds events ≡ deeds)
+
+-- a reply that is told is one packet: no statement that is taken asks for rows
+abbrev pub IsShortTold : What → Type 0
+IsShortTold (Reply reply) = IsShort reply
+IsShortTold Stray = Unit {0}
 
 -- the last event number is reached, where the core is told
 abbrev pub IsLast : Option View → Type 0

@@ -2,7 +2,8 @@ ghost use Rattle.std.specs.Prelude.{◌≡◌, ◌≤◌, ℕ, List, false, Some
 ghost use Rattle.vl_base.specs.Faults.{Rose};
 ghost use Rattle.vl_model.specs.Taken.{IsTaken};
 ghost use Rattle.vl_serve.specs.Command.{Means, reply_packet};
-ghost use Rattle.vl_serve.specs.History.{IsLast};
+ghost use Rattle.my_reply.specs.Reply.{IsShort};
+ghost use Rattle.vl_serve.specs.History.{IsLast, IsShortTold};
 ghost use Rattle.vl_serve.specs.Serving.{Step, Brings, BringsFirst, Wrote, TellsWhat, TellsFault, Refuses};
 ghost use Rattle.vl_values.specs.Reply.{refusal};
 ghost use Rattle.vl_serve.specs.declared.end.ConnEnd.TheVariants.{WriteFault, Strayed};
@@ -25,8 +26,9 @@ use vl_values::reply::Reply;
 /// The number of each reply: a command has number 0, and its reply goes on from there.
 const REPLY_NUMBER: u8 = 1;
 
-/// Writes a reply. A write that fails ends the connection.
+/// Writes a reply of one packet. A write that fails ends the connection.
 fn write_reply<O: Sink>(out: &mut O, short: &mut ShortBuf, reply: &Reply) -> Option<ConnEnd>
+    requires { IsShort reply.now }
     ensures wrote { Wrote result (O.held out.old) (O.held out.new) (reply_packet reply.now) }
     ensures later { O.faults out.old ≤ O.faults out.new }
     ensures fault { result ≡ Some WriteFault → Rose (O.faults out.old) (O.faults out.new) }
@@ -40,6 +42,7 @@ fn write_reply<O: Sink>(out: &mut O, short: &mut ShortBuf, reply: &Reply) -> Opt
 
 /// Writes what the core told.
 fn write_what<O: Sink>(out: &mut O, short: &mut ShortBuf, what: &What) -> Option<ConnEnd>
+    requires { IsShortTold what.now }
     ensures told { TellsWhat what.now result (O.held out.old) (O.held out.new) }
     ensures later { O.faults out.old ≤ O.faults out.new }
     ensures fault { result ≡ Some WriteFault → Rose (O.faults out.old) (O.faults out.new) }

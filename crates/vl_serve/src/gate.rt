@@ -3,7 +3,7 @@ ghost use Rattle.vl_model.specs.Taken.{IsTaken};
 ghost use Rattle.vl_cluster.specs.View.{View, stmt_of};
 ghost use Rattle.vl_cluster.specs.declared.session.Session.{Session};
 ghost use Rattle.vl_cluster.specs.declared.what.What.TheVariants.{Stray};
-ghost use Rattle.vl_serve.specs.History.{Ran, IsLast};
+ghost use Rattle.vl_serve.specs.History.{Ran, IsLast, IsShortTold};
 ghost use Rattle.vl_serve.specs.History.Deed.{Join, Say, Leave};
 
 use std::alloc::AllocError;
@@ -26,11 +26,12 @@ pub trait Gate {
         ensures err { OnErr result (Ran (seen self.old) [] (seen self.new)) }
         ensures due { IfOk result (λ pass. is_due self.new pass) };
 
-    /// Asks the core what it takes, and gives the pass for the next event. Over a core that is told, a pass
-    /// that was due is refused only at the last event number.
+    /// Asks the core what it takes, and gives the pass for the next event. The reply is one packet. Over a
+    /// core that is told, a pass that was due is refused only at the last event number.
     fn act(&mut self, pass: Pass, ask: Ask) -> (Pass, Told)
         requires { IsTaken (stmt_of ask) }
         ensures said { Ran (seen self.old) (Say pass (stmt_of ask) result.1.1 result.0 ∷ []) (seen self.new) }
+        ensures short { IsShortTold result.1.1 }
         ensures due { is_due self.old pass → is_due self.new result.0 }
         ensures stray { is_due self.old pass → result.1.1 ≡ Stray → IsLast (seen self.new) };
 

@@ -13,3 +13,4 @@ pub mod Reply
 pub mod Row
 pub mod Unsupported
 pub mod Value
+pub mod Warning

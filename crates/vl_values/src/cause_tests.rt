@@ -6,6 +6,7 @@ use crate::lost_why::LostWhy;
 use crate::reply::Reply;
 use crate::shard_name::ShardName;
 use crate::unsupported::Unsupported;
+use crate::warning::Warning;
 use std::alloc::{AllocError, Global};
 use std::process::Abort;
 use std::test::Fail;
@@ -286,6 +287,34 @@ fn commits_that_failed(rt: HostRuntime) {
 }
 
 #[test]
+fn post_commits_that_failed(rt: HostRuntime) {
+    let warnings: [(Warning, &[u8]); 3] = [
+        (
+            Warning::PostLost {
+                shard: shard(),
+                why: LostWhy::Link,
+            },
+            b"Post commit failed: lost commerce/-80 (link)",
+        ),
+        (
+            Warning::PostLost {
+                shard: shard(),
+                why: LostWhy::Restarted { had: 1, current: 2 },
+            },
+            b"Post commit failed: lost commerce/-80 (restarted 1 2)",
+        ),
+        (
+            Warning::PostDevice { shard: shard() },
+            b"Post commit failed: device of commerce/-80",
+        ),
+    ];
+    for (warning, text) in warnings {
+        assert_eq!(rt; warning.code(), 1105);
+        assert_eq!(rt; warning.text().as_slice(), text);
+    }
+}
+
+#[test]
 fn limits_that_are_reached(rt: HostRuntime) {
     let limits: [(Limit, u64, &[u8]); 10] = [
         (Limit::Changes, 10000, b"Limit of changes reached: 10000"),
@@ -433,7 +462,7 @@ fn a_text_ends_after_512_bytes(rt: HostRuntime) -> Result<(), Fail> {
 fn a_refusal_carries_the_code_of_its_cause(rt: HostRuntime) {
     for open in [false, true] {
         match Reply::refusal(Cause::Syntax { at: 3 }, open) {
-            Reply::Ok { .. } => assert!(rt; false, "a refusal isn't done"),
+            Reply::Ok { .. } | Reply::Rows { .. } => assert!(rt; false, "a refusal isn't done"),
             Reply::Err { code, why, tx } => {
                 assert_eq!(rt; code, 1064);
                 assert_eq!(rt; why.state(), b"42000".as_slice());

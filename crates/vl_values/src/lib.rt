@@ -4,7 +4,8 @@
 // key is a table's number with the values of its primary key. Contracts see each collection as the
 // list of what it holds. The layers above rely on one total order of values, whose equality is `=`:
 // NULL is least, numbers go by value, and bytes by their first difference. A refusal of a statement
-// is a `Cause`; its text is that of the error packet and of a script's reply line.
+// is a `Cause`; its text is that of the error packet and of a script's reply line. What failed of a
+// statement that was done is a `Warning`.
 #![tactic(auto)]
 
 pub mod bytes;
@@ -26,6 +27,7 @@ pub mod order;
 pub mod piece;
 pub mod pred;
 pub mod reply;
+pub mod reply_column;
 pub mod row;
 pub mod shard_name;
 pub mod test;
@@ -35,6 +37,7 @@ pub mod try_copy;
 mod unit_tests;
 pub mod unsupported;
 pub mod value;
+pub mod warning;
 
 /// A table's number in its catalog, counted from 0.
 pub type TableNo = u32;

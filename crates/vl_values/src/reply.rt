@@ -1,4 +1,7 @@
 use crate::cause::Cause;
+use crate::items::Items;
+use crate::reply_column::ReplyColumn;
+use crate::row::Row;
 
 /// The answer to a statement. `tx` is true while a transaction stays open, and `auto` while
 /// autocommit is on.
@@ -9,6 +12,13 @@ pub enum Reply {
         affected: u64,
         found: u64,
         warnings: u16,
+        tx: bool,
+        auto: bool,
+    },
+    /// The result set of a SELECT: each row has a value for each column, in their order.
+    Rows {
+        columns: Items<ReplyColumn>,
+        rows: Items<Row>,
         tx: bool,
         auto: bool,
     },

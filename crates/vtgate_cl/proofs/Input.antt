@@ -11,6 +11,7 @@ use Rattle.vtgate_cl.specs.declared.stop.Stop.TheVariants.{NotScript, Read, Writ
 use Rattle.vtgate_cl.specs.Player.{Played, GoesOn, StopsIn, Finishes, StopsAtEnd}
 use Rattle.vtgate_cl.specs.Playing.{Ends}
 use Rattle.vtgate_cl.specs.Script.{IsWhole, IsRefused, Begins}
+use Rattle.vtgate_cl.specs.declared.status.Status.TheVariants.{Done}
 use Rattle.vtgate_cl.specs.Status.{IsPaused, IsDone, IsTold, Breaks, status_of}
 use Rattle.vtgate_cl.proofs.Ending.{begins_first}
 
@@ -86,7 +87,7 @@ refused_begins : (bytes text : List ℕ) → IsRefused bytes text → Begins byt
 refused_begins bytes text r = ([], inr (subst (λ (v : List ℕ). IsRefused bytes v) (sym (append-nil text)) r))
 
 -- what a status tells
-pub told_done : (bytes text : List ℕ) (left : Option (List ℕ)) → IsDone bytes left text → IsTold 0 bytes left text
+pub told_done : (bytes text : List ℕ) (left : Option (List ℕ)) → IsDone bytes left text → IsTold Done bytes left text
 told_done bytes text left d = record {
   done = λ e. d;
   refused = λ e. cc;

@@ -10,6 +10,8 @@ use Rattle.vl_load.specs.Report.{report_of}
 use Rattle.vl_load.specs.declared.load_fault.LoadFault.{LoadFault}
 use Rattle.vl_load.specs.declared.load_fault.LoadFault.TheVariants as faults
 use Rattle.vl_load.specs.declared.loaded.Loaded.{Loaded}
+use Rattle.vtgate_cl.specs.declared.status.Status.{Status}
+use Rattle.vtgate_cl.specs.declared.status.Status.TheVariants.{Done, WriteFailed, OutOfMemory, FileNotLoaded, CatalogRefused}
 
 -- ---- what was found of the catalog: all that its files mean, or the first fault
 
@@ -23,29 +25,28 @@ abbrev pub text_of : Result Loaded LoadFault → List ℕ
 text_of (Ok loaded) = report_of loaded
 text_of (Err fault) = fault_line fault
 
--- 8 for a file that failed or is too long, 10 for a catalog that is refused
-abbrev pub status_of_fault : LoadFault → ℕ
-status_of_fault faults.Failed = 8
-status_of_fault (faults.TooLong file) = 8
-status_of_fault (faults.Refused fault) = 10
-status_of_fault faults.Memory = 6
+abbrev pub status_of_fault : LoadFault → Status
+status_of_fault faults.Failed = FileNotLoaded
+status_of_fault (faults.TooLong file) = FileNotLoaded
+status_of_fault (faults.Refused fault) = CatalogRefused
+status_of_fault faults.Memory = OutOfMemory
 
-abbrev pub status_of_found : Result Loaded LoadFault → ℕ
-status_of_found (Ok loaded) = 0
+abbrev pub status_of_found : Result Loaded LoadFault → Status
+status_of_found (Ok loaded) = Done
 status_of_found (Err fault) = status_of_fault fault
 
 -- ---- what was printed
 
 -- The text is written, which has its status; or the sink failed, behind a part of it; or memory was refused
 -- before any of it was written.
-pub data Tells (text : List ℕ) (due : ℕ) (held holds : Option (List ℕ)) : ℕ → Type 0 where
+pub data Tells (text : List ℕ) (due : Status) (held holds : Option (List ℕ)) : Status → Type 0 where
   Whole : Appends held holds text → Tells text due held holds due
-  Cut : WrotePart held holds text → Tells text due held holds 4
-  Unwritten : Keeps held holds → Tells text due held holds 6
+  Cut : WrotePart held holds text → Tells text due held holds WriteFailed
+  Unwritten : Keeps held holds → Tells text due held holds OutOfMemory
 
 -- The check of the catalog of this name: what was found of it, with the count of the files' faults before and
 -- now, is told.
-pub record IsChecked (known : Option FileMap) (name : List ℕ) (before now : ℕ) (held holds : Option (List ℕ)) (status : ℕ) : Type 0 where
+pub record IsChecked (known : Option FileMap) (name : List ℕ) (before now : ℕ) (held holds : Option (List ℕ)) (status : Status) : Type 0 where
   pub found : Result Loaded LoadFault
   pub is : IsFound known name found
   pub cause : HasLoadCause before now found

@@ -2,6 +2,8 @@
 use Rattle.std.specs.Prelude.{◌≡◌, ℕ, List, [], ◌∷◌, ◌++◌, Option, Some, Contains}
 use Rattle.std.specs.Io.KnownBytes.{Appends}
 use Rattle.vl_model.specs.Steps.{Rows}
+use Rattle.vtgate_cl.specs.declared.status.Status.{Status}
+use Rattle.vtgate_cl.specs.declared.status.Status.TheVariants.{Done, InvalidArguments, NotScriptLine, ReadFailed, WriteFailed, OutOfMemory, FileNotLoaded, CatalogRefused}
 use Rattle.vtgate_cl.specs.declared.stop.Stop.{Stop}
 use Rattle.vtgate_cl.specs.declared.stop.Stop.TheVariants.{NotScript, Read, Write, Memory}
 use Rattle.vtgate_cl.specs.declared.words_fault.WordsFault.{WordsFault}
@@ -9,29 +11,35 @@ use Rattle.vtgate_cl.specs.declared.words_fault.WordsFault.TheVariants as words_
 use Rattle.vtgate_cl.specs.Playing.{PlayedAt}
 use Rattle.vtgate_cl.specs.Script.{IsWhole, IsRefused, Begins}
 
--- 0 at the end of the input, 1 for words that aren't accepted, 2 at a fault of a line, 3 and 4 at a fault of
--- the source or the sink, 6 for want of memory, 8 for a file that isn't loaded, 10 for a catalog that is refused
-abbrev pub IsStatus : ℕ → Type 0
-IsStatus = Contains (0 ∷ 1 ∷ 2 ∷ 3 ∷ 4 ∷ 6 ∷ 8 ∷ 10 ∷ [])
+-- the number with which the program exits
+abbrev pub number_of : Status → ℕ
+number_of Done = 0
+number_of InvalidArguments = 1
+number_of NotScriptLine = 2
+number_of ReadFailed = 3
+number_of WriteFailed = 4
+number_of OutOfMemory = 6
+number_of FileNotLoaded = 8
+number_of CatalogRefused = 10
 
 -- those of a script
-abbrev pub IsScriptStatus : ℕ → Type 0
-IsScriptStatus = Contains (0 ∷ 2 ∷ 3 ∷ 4 ∷ 6 ∷ [])
+abbrev pub IsScriptStatus : Status → Type 0
+IsScriptStatus = Contains (Done ∷ NotScriptLine ∷ ReadFailed ∷ WriteFailed ∷ OutOfMemory ∷ [])
 
 -- those of words that aren't accepted: memory may be refused before that is known
-abbrev pub IsRefusalStatus : ℕ → Type 0
-IsRefusalStatus = Contains (1 ∷ 6 ∷ [])
+abbrev pub IsRefusalStatus : Status → Type 0
+IsRefusalStatus = Contains (InvalidArguments ∷ OutOfMemory ∷ [])
 
-abbrev pub status_of_words : WordsFault → ℕ
-status_of_words words_faults.Refused = 1
-status_of_words (words_faults.Help text) = 1
-status_of_words words_faults.Memory = 6
+abbrev pub status_of_words : WordsFault → Status
+status_of_words words_faults.Refused = InvalidArguments
+status_of_words (words_faults.Help text) = InvalidArguments
+status_of_words words_faults.Memory = OutOfMemory
 
-abbrev pub status_of : Stop → ℕ
-status_of NotScript = 2
-status_of Read = 3
-status_of Write = 4
-status_of Memory = 6
+abbrev pub status_of : Stop → Status
+status_of NotScript = NotScriptLine
+status_of Read = ReadFailed
+status_of Write = WriteFailed
+status_of Memory = OutOfMemory
 
 -- The source gave a front of its bytes and still has the others: the lines that have ended in that front
 -- are answered, and nothing is printed of the line that hasn't.
@@ -51,10 +59,10 @@ Breaks Write bytes left text = Begins bytes text
 Breaks Memory bytes left text = Begins bytes text
 
 -- what was printed of a script of these bytes, and what the source has left of them
-pub record IsTold (status : ℕ) (bytes : List ℕ) (left : Option (List ℕ)) (text : List ℕ) : Type 0 where
-  pub done : status ≡ 0 → IsDone bytes left text
-  pub refused : status ≡ 2 → IsRefused bytes text
-  pub paused : status ≡ 3 → IsPaused bytes left text
+pub record IsTold (status : Status) (bytes : List ℕ) (left : Option (List ℕ)) (text : List ℕ) : Type 0 where
+  pub done : status ≡ Done → IsDone bytes left text
+  pub refused : status ≡ NotScriptLine → IsRefused bytes text
+  pub paused : status ≡ ReadFailed → IsPaused bytes left text
   -- in each case no more than the answers of lines before the first fault, in order, and that fault
   pub begins : Begins bytes text
 

@@ -1,8 +1,9 @@
 ghost use Rattle.std.specs.Prelude.{◌≡◌, ◌*◌, ◌≤◌, ℕ, List, [], OnOk, IfErr};
 ghost use Rattle.vl_base.specs.Faults.{Rose};
+ghost use Rattle.vtgate_cl.specs.declared.status.Status.TheVariants.{Done, InvalidArguments, ReadFailed, WriteFailed, OutOfMemory};
 ghost use Rattle.vtgate_cl.specs.Check.{IsChecked};
 ghost use Rattle.vtgate_cl.specs.Player.{Played};
-ghost use Rattle.vtgate_cl.specs.Status.{IsStatus, IsScriptStatus, IsRefusalStatus, IsTold, IsDone, Breaks, Prints};
+ghost use Rattle.vtgate_cl.specs.Status.{IsScriptStatus, IsRefusalStatus, IsTold, IsDone, Breaks, Prints};
 ghost use Rattle.vtgate_cl.specs.Words.{IsAccepted, IsCheck, IsCheckOf, IsScript};
 
 use crate::check::check;
@@ -19,11 +20,8 @@ const PIECE: usize = 4096;
 
 /// Runs the command that the words ask for. `script` reads a script from the source, answers its lines in
 /// order and prints each answer before it reads on. `check` loads the catalog of that name from the files and
-/// prints its report, or why it wasn't loaded. The status is 0 where the input was read to its end and all was
-/// printed, 1 where the words aren't accepted, which reads and prints nothing, 2 at the first line that is no
-/// script line, whose number is printed last, 3 and 4 where the source or the sink failed, 6 for want of
-/// memory outside a statement, 8 where a file couldn't be loaded or is too long, and 10 where a catalog is
-/// refused.
+/// prints its report, or why it wasn't loaded. Words that aren't accepted read and print nothing. A
+/// script ends at the first line that is no script line, whose number is printed last.
 pub fn batch<F: Files, S: Source, O: Sink>(
     alloc: Global,
     words: &[String],
@@ -32,7 +30,7 @@ pub fn batch<F: Files, S: Source, O: Sink>(
     out: &mut O,
 ) -> Status
     // Words that aren't accepted do nothing.
-    ensures refused { result ≡ 1 → IsAccepted words.now → ⊥ }
+    ensures refused { result ≡ InvalidArguments → IsAccepted words.now → ⊥ }
     ensures other { (IsAccepted words.now → ⊥) → IsRefusalStatus result }
     ensures untouched { (IsAccepted words.now → ⊥) → (files.new ≡ files.old) × (src.new ≡ src.old) × (out.new ≡ out.old) }
 
@@ -43,15 +41,14 @@ pub fn batch<F: Files, S: Source, O: Sink>(
 
     // A check tells what the catalog's files say, and reads no script.
     ensures check { (name : List ℕ) → IsCheckOf words.now name → IsChecked (F.known files.old) name (F.failures files.old) (F.failures files.new) (O.held out.old) (O.held out.new) result }
-    ensures named { IsCheck words.now → (result ≡ 6 → ⊥) → (name : List ℕ) × IsCheckOf words.now name }
+    ensures named { IsCheck words.now → (result ≡ OutOfMemory → ⊥) → (name : List ℕ) × IsCheckOf words.now name }
     ensures check_source { IsCheck words.now → src.new ≡ src.old }
     ensures same { F.known files.new ≡ F.known files.old }
 
     // Each fault of the outside is told where it was, and only there.
-    ensures calm { result ≡ 0 → (F.failures files.new ≡ F.failures files.old) × (S.faults src.new ≡ S.faults src.old) × (O.faults out.new ≡ O.faults out.old) }
-    ensures read { result ≡ 3 → Rose (S.faults src.old) (S.faults src.new) }
-    ensures write { result ≡ 4 → Rose (O.faults out.old) (O.faults out.new) }
-    ensures status { IsStatus result }
+    ensures calm { result ≡ Done → (F.failures files.new ≡ F.failures files.old) × (S.faults src.new ≡ S.faults src.old) × (O.faults out.new ≡ O.faults out.old) }
+    ensures read { result ≡ ReadFailed → Rose (S.faults src.old) (S.faults src.new) }
+    ensures write { result ≡ WriteFailed → Rose (O.faults out.old) (O.faults out.new) }
 {
     let wanted = match read_words(alloc, words) {
         Ok(wanted) => wanted,
@@ -66,14 +63,14 @@ pub fn batch<F: Files, S: Source, O: Sink>(
 // Runs a script.
 fn run_script<S: Source, O: Sink>(alloc: Global, src: &mut S, out: &mut O) -> Status
     ensures script { Prints (IsTold result) (S.left src.old) (S.left src.new) (O.held out.old) (O.held out.new) }
-    ensures calm { result ≡ 0 → (S.faults src.new ≡ S.faults src.old) × (O.faults out.new ≡ O.faults out.old) }
-    ensures read { result ≡ 3 → Rose (S.faults src.old) (S.faults src.new) }
-    ensures write { result ≡ 4 → Rose (O.faults out.old) (O.faults out.new) }
-    ensures accepted { result ≡ 1 → ⊥ }
+    ensures calm { result ≡ Done → (S.faults src.new ≡ S.faults src.old) × (O.faults out.new ≡ O.faults out.old) }
+    ensures read { result ≡ ReadFailed → Rose (S.faults src.old) (S.faults src.new) }
+    ensures write { result ≡ WriteFailed → Rose (O.faults out.old) (O.faults out.new) }
+    ensures accepted { result ≡ InvalidArguments → ⊥ }
     ensures status { IsScriptStatus result }
 {
     match run(alloc, src, out) {
-        Ok(()) => 0,
+        Ok(()) => Status::Done,
         Err(stop) => stop.status(),
     }
 }

@@ -1,5 +1,4 @@
 use crate::batch::batch;
-use crate::status::Status;
 use std::alloc::{AllocError, Global};
 use std::fs;
 use std::process::Abort;
@@ -69,24 +68,24 @@ fn words_of(alloc: Global, words: &[&str]) -> Result<Vec<String>, AllocError> {
     Ok(list)
 }
 
-// The status of the words over these files, and what is printed into this room.
+// The exit status of the words over these files, and what is printed into this room.
 fn ran<F: Files>(
     alloc: Global,
     words: &[&str],
     files: &mut F,
     room: usize,
-) -> Result<(Status, Vec<u8>), AllocError> {
+) -> Result<(u8, Vec<u8>), AllocError> {
     let words = words_of(alloc, words)?;
     let mut src = SteadySource::new(b"bogus".to_vec(alloc)?, 1);
     let mut out = MemorySink::new(alloc, room, 7, Vec::new(alloc))?;
     let status = batch(alloc, words.as_slice(), files, &mut src, &mut out);
-    Ok((status, out.bytes().to_vec(alloc)?))
+    Ok((status.number(), out.bytes().to_vec(alloc)?))
 }
 
 // Checks the orders' catalog in the folder d, with one file changed and the load of this number failing.
 fn check_orders(
     rt: &(impl Abort + AllocGlobal),
-    cases: &[(&[u8], &[u8], u64, Status, &[u8])],
+    cases: &[(&[u8], &[u8], u64, u8, &[u8])],
 ) -> Result<(), Fail> {
     let alloc = rt.alloc();
     for (name, bytes, failing, status, printed) in cases {
@@ -229,8 +228,8 @@ table commerce.t2_b_idx primary b binary_md5
     Ok(())
 }
 
-// The statuses of words over the orders' catalog; nothing is printed for those that are refused.
-fn check_words(rt: &(impl Abort + AllocGlobal), cases: &[(&[&str], Status)]) -> Result<(), Fail> {
+// The exit statuses of words over the orders' catalog; nothing is printed for those that are refused.
+fn check_words(rt: &(impl Abort + AllocGlobal), cases: &[(&[&str], u8)]) -> Result<(), Fail> {
     let alloc = rt.alloc();
     for (words, status) in cases {
         let files = orders(alloc, b"", &[])?;

@@ -35,19 +35,16 @@ use vl_base::{FolderFiles, Sink, StdSink, StdSource, write_all};
 use words::read_words;
 use words_fault::WordsFault;
 
-/// The status where the words can't be read for want of memory.
-const NO_MEMORY: Status = 6;
-
 fn main(rt: HostRuntime) -> ExitCode {
     let Ok(words) = words_of(&rt) else {
-        return ExitCode::from(NO_MEMORY);
+        return ExitCode::from(Status::OutOfMemory.number());
     };
     let mut files = FolderFiles::new(&rt, rt.alloc());
     let mut src = StdSource::new(rt.reader());
     let mut out = StdSink::new(io::writer(&rt));
     tell_help(rt.alloc(), words.as_slice(), &mut out);
     let status = batch(rt.alloc(), words.as_slice(), &mut files, &mut src, &mut out);
-    ExitCode::from(status)
+    ExitCode::from(status.number())
 }
 
 // Prints the help that the words ask for. A sink that fails changes no status: the words aren't accepted.

@@ -22,10 +22,10 @@ impl Stop {
         ensures { result ≡ status_of self }
     {
         match self {
-            Stop::NotScript => 2,
-            Stop::Read => 3,
-            Stop::Write => 4,
-            Stop::Memory => 6,
+            Stop::NotScript => Status::NotScriptLine,
+            Stop::Read => Status::ReadFailed,
+            Stop::Write => Status::WriteFailed,
+            Stop::Memory => Status::OutOfMemory,
         }
     }
 }

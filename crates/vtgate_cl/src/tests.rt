@@ -1,7 +1,6 @@
 ghost use Rattle.std.specs.Prelude.{◌<◌};
 
 use crate::batch::batch;
-use crate::status::Status;
 use std::alloc::{AllocError, Global};
 use std::test::Fail;
 use vl_base::{MemoryFiles, MemorySink, MemorySource, SteadySink, SteadySource};
@@ -16,9 +15,9 @@ fn no_files(alloc: Global) -> MemoryFiles {
     MemoryFiles::new(alloc, Vec::new(alloc), Vec::new(alloc))
 }
 
-// The status of a script and what it prints, where a read gives at most `piece` bytes and a write takes
+// The exit status of a script and what it prints, where a read gives at most `piece` bytes and a write takes
 // at most `piece`.
-fn played(alloc: Global, script: &[u8], piece: usize) -> Result<(Status, Vec<u8>), AllocError>
+fn played(alloc: Global, script: &[u8], piece: usize) -> Result<(u8, Vec<u8>), AllocError>
     requires { 0 < piece }
 {
     let mut src = MemorySource::new(script.to_vec(alloc)?, piece, Vec::new(alloc));
@@ -30,7 +29,7 @@ fn played(alloc: Global, script: &[u8], piece: usize) -> Result<(Status, Vec<u8>
         &mut src,
         &mut out,
     );
-    Ok((status, out.bytes().to_vec(alloc)?))
+    Ok((status.number(), out.bytes().to_vec(alloc)?))
 }
 
 #[test]
@@ -167,7 +166,11 @@ fn faults_of_the_outside_end_a_script(rt: HostRuntime) -> Result<(), Fail> {
             &mut src,
             &mut out,
         );
-        assert_eq!(rt; got, status, "{failing_read} {failing_write} {room}");
+        assert_eq!(rt;
+            got.number(),
+            status,
+            "{failing_read} {failing_write} {room}"
+        );
         assert_eq!(rt;
             out.bytes(),
             printed.as_bytes(),
@@ -196,7 +199,8 @@ fn other_words_are_refused(rt: HostRuntime) -> Result<(), Fail> {
                 &mut no_files(alloc),
                 &mut src,
                 &mut SteadySink
-            ),
+            )
+            .number(),
             1
         );
         assert_eq!(rt; src.rest(), b"#".as_slice());

@@ -20,8 +20,8 @@ impl WordsFault {
         ensures { result ≡ status_of_words self.now }
     {
         match self {
-            WordsFault::Refused | WordsFault::Help { .. } => 1,
-            WordsFault::Memory => 6,
+            WordsFault::Refused | WordsFault::Help { .. } => Status::InvalidArguments,
+            WordsFault::Memory => Status::OutOfMemory,
         }
     }
 }

@@ -1,7 +1,7 @@
 use Rattle.std.proofs.Common.{inl, inr, subst}
 use Rattle.vtgate_cl.specs.declared.wanted.Wanted.{Wanted}
 use Rattle.vtgate_cl.specs.Words.{Asks}
-use Rattle.vtgate_cl.proofs.Batching.{any_status, check_status, check_told, check_unread, refusal_refuses, refusal_status, script_status, script_unread, script_unread_status, unnamed}
+use Rattle.vtgate_cl.proofs.Batching.{check_status, check_told, check_unread, refusal_refuses, refusal_status, script_unread, script_unread_status, unnamed}
 use Rattle.vtgate_cl.proofs.Wording.{script_not_check}
 use Rattle.vtgate_cl.proofs.batch.batch.Goals as goal
 
@@ -30,9 +30,6 @@ pub returns-in-Err-clause-named : goal.returns-in-Err-clause-named
 returns-in-Err-clause-named g c =
     unnamed c.args.words.now c.in-Err.fault c.status.result c.status.ensures c.in-Err.ensures.err
 
-pub returns-in-Err-clause-status : goal.returns-in-Err-clause-status
-returns-in-Err-clause-status g c = any_status c.in-Err.fault c.status.result c.status.ensures
-
 -- ---- they ask for a script
 
 pub returns-in-Script-clause-other : goal.returns-in-Script-clause-other
@@ -55,14 +52,11 @@ pub returns-in-Script-clause-check_source : goal.returns-in-Script-clause-check_
 returns-in-Script-clause-check_source g c asks =
     absurd (script_not_check c.args.words.now (subst (λ (w : Wanted). Asks c.args.words.now w) c.in-Script.is c.in-Ok.ensures.ok) asks)
 
-pub returns-in-Script-clause-status : goal.returns-in-Script-clause-status
-returns-in-Script-clause-status g c = script_status c.run_script.result c.run_script.ensures.status
-
 -- ---- they ask for a check
 
 pub returns-in-Check-clause-refused : goal.returns-in-Check-clause-refused
 returns-in-Check-clause-refused g c one =
-    absurd ((check_status _ _ _ _ _ _ _ c.check.ensures.told).1 one)
+    absurd ((check_status _ _ _ _ _ _ _ c.check.ensures.told).0 one)
 
 pub returns-in-Check-clause-other : goal.returns-in-Check-clause-other
 returns-in-Check-clause-other g c other =
@@ -94,7 +88,4 @@ returns-in-Check-clause-named g c asks other =
 
 pub returns-in-Check-clause-read : goal.returns-in-Check-clause-read
 returns-in-Check-clause-read g c three =
-    absurd ((check_status _ _ _ _ _ _ _ c.check.ensures.told).2 three)
-
-pub returns-in-Check-clause-status : goal.returns-in-Check-clause-status
-returns-in-Check-clause-status g c = (check_status _ _ _ _ _ _ _ c.check.ensures.told).0
+    absurd ((check_status _ _ _ _ _ _ _ c.check.ensures.told).1 three)

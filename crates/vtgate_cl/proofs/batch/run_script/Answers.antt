@@ -1,4 +1,5 @@
-use Rattle.std.proofs.Common.{ℕ, arith, refl, sym, subst}
+use Rattle.std.proofs.Common.{arith, refl, sym, subst}
+use Rattle.vtgate_cl.specs.declared.status.Status.{Status}
 use Rattle.vtgate_cl.specs.declared.stop.Stop.{Stop}
 use Rattle.vtgate_cl.specs.declared.stop.Stop.TheVariants.{NotScript, Read, Write, Memory}
 use Rattle.vtgate_cl.specs.Status.{IsScriptStatus, IsTold, status_of}
@@ -13,7 +14,7 @@ returns-in-Ok-clause-script g c bytes known =
 pub returns-in-Err-clause-script : goal.returns-in-Err-clause-script
 returns-in-Err-clause-script g c bytes known =
     let ran = c.in-Err.ensures.err bytes known in
-    (ran.0, ran.1, subst (λ (v : ℕ). IsTold v bytes (g.S.Source.left c.run.new.src) ran.0) (sym c.status.ensures) (told_break c.in-Err.stop bytes ran.0 (g.S.Source.left c.run.new.src) ran.2))
+    (ran.0, ran.1, subst (λ (v : Status). IsTold v bytes (g.S.Source.left c.run.new.src) ran.0) (sym c.status.ensures) (told_break c.in-Err.stop bytes ran.0 (g.S.Source.left c.run.new.src) ran.2))
 
 stop_known : (stop : Stop) → IsScriptStatus (status_of stop)
 stop_known NotScript = (1, omega arith, refl)

@@ -1,6 +1,6 @@
 ghost use Rattle.std.specs.Prelude.{◌≡◌, ◌≤◌, length};
 ghost use Rattle.my_reply.specs.Fields.{counted};
-ghost use Rattle.my_reply.specs.Reply.{framed, ok_payload, err_payload, reply_bytes};
+ghost use Rattle.my_reply.specs.Reply.{framed, ok_payload, err_payload, reply_bytes, IsShort};
 
 use crate::fields::{encoded_len, push_encoded, status_flags};
 use crate::short_buf::ShortBuf;
@@ -16,9 +16,11 @@ pub const PROTOCOL_41: u32 = 0x200;
 /// Writes an OK or ERR packet with this number into the buffer, in place of what was there, as under
 /// PROTOCOL_41. It takes no memory.
 pub fn encode_short(reply: &Reply, caps: u32, seq: u8, buf: &mut ShortBuf)
+    requires { IsShort reply.now }
     ensures { buf.new ≡ reply_bytes reply.now caps seq }
 {
     match reply {
+        Reply::Rows { .. } => unreachable!(),
         Reply::Ok {
             affected,
             found,
