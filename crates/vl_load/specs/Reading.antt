@@ -5,7 +5,7 @@ use Rattle.vl_catalog.specs.declared.keyspace_vschema.KeyspaceVschema.{KeyspaceV
 use Rattle.vl_ddl.specs.Fault.{Defines, IsAt}
 use Rattle.vl_ddl.specs.declared.schema.DdlFault.TheVariants as ddl_faults
 use Rattle.vl_vschema.specs.Breaking.{breaks}
-use Rattle.vl_vschema.specs.Document.{IsJson, IsRefusal, IsSound}
+use Rattle.vl_vschema.specs.Document.{Breaks, IsJson, IsRefusal, IsSound}
 use Rattle.vl_vschema.specs.Vschema.{IsVschema}
 use Rattle.vl_vschema.specs.declared.vschema_fault.VschemaFault.TheVariants as json_faults
 use Rattle.vl_load.specs.declared.file_text.FileText.{FileText}
@@ -29,7 +29,7 @@ pub record Means (texts : KeyspaceTexts) (read : KeyspaceRead) : Type 0 where
   pub tables : Defines texts.schema.text read.tables
 
 -- a file in JSON, whose rules these are, is refused so
-abbrev pub RefusesJson : (Data → List (List (List ℕ))) → List ℕ → List ℕ → Refused → Type 0
+abbrev pub RefusesJson : (Data → Breaks) → List ℕ → List ℕ → Refused → Type 0
 RefusesJson rules name text (NotJson file) = (file ≡ name) × IsRefusal rules text json_faults.NotJson
 RefusesJson rules name text (Broken place rule) = (path : List ℕ) × (place ≡ place_in name path) × IsRefusal rules text (json_faults.Broken path rule)
 RefusesJson rules name text _ = ⊥

@@ -1,9 +1,9 @@
-ghost use Rattle.std.specs.Prelude.{ℕ, List, IfOk, IfErr};
+ghost use Rattle.std.specs.Prelude.{IfOk, IfErr};
 ghost use Rattle.std.specs.List.{AllZip};
 ghost use Rattle.serde_json.specs.Data.{Data};
 ghost use Rattle.vl_ddl.specs.Fault.{Defines, IsAt};
 ghost use Rattle.vl_vschema.specs.Breaking.{breaks};
-ghost use Rattle.vl_vschema.specs.Document.{IsRefusal};
+ghost use Rattle.vl_vschema.specs.Document.{Breaks, IsRefusal};
 ghost use Rattle.vl_load.specs.Faults.{IsUnfit};
 ghost use Rattle.vl_load.specs.Files.{ListsKeyspaces};
 ghost use Rattle.vl_load.specs.Reading.{Means, RefusesFile, RefusesFiles, RefusesJson, RefusesSchema, SaysVschema};
@@ -23,7 +23,7 @@ use vl_vschema::{KeyspaceFile, VschemaFault, read_catalog, read_vschema};
 
 // Why a file in JSON is refused, of which the reader told this fault.
 fn json_fault(alloc: Global, file: &FileText, fault: VschemaFault) -> LoadFault
-    ensures { (rules : Data → List (List (List ℕ))) → IsRefusal rules file.now.text fault → IsUnfit (RefusesJson rules file.now.name file.now.text) result }
+    ensures { (rules : Data → Breaks) → IsRefusal rules file.now.text fault → IsUnfit (RefusesJson rules file.now.name file.now.text) result }
 {
     match fault {
         VschemaFault::NotJson => match file.name.copy(alloc) {

@@ -3,15 +3,17 @@ ghost use Rattle.hex.specs.Hex.{encode_lower};
 
 use crate::text::joined;
 use std::alloc::{AllocError, Global};
+use vl_rules::CatalogRule;
 use vl_values::bytes::Bytes;
 use vl_vindex::Side;
+use vl_vschema::VschemaRule;
 
 /// Why a catalog is refused: the first fault.
 #[derive(Drop)]
 pub enum Refused {
     NotJson { file: Bytes },
-    /// What has this path, which begins with the file's name, breaks the rule V1 to V6 of this number.
-    Broken { path: Bytes, rule: u8 },
+    /// What has this path, which begins with the file's name, breaks the rule.
+    Broken { path: Bytes, rule: VschemaRule },
     /// The schema file has a syntax error at this byte.
     Syntax { file: Bytes, at: usize },
     Unsupported { file: Bytes, at: usize },
@@ -21,8 +23,8 @@ pub enum Refused {
     Gap { keyspace: Bytes, after: Side },
     /// Several ranges of the keyspace hold this keyspace id.
     Overlap { keyspace: Bytes, at: Side },
-    /// The table breaks the rule C1 to C14 of this number.
-    Rule { table: Bytes, rule: u8 },
+    /// The table breaks the rule.
+    Rule { table: Bytes, rule: CatalogRule },
 }
 
 // `catalog refused: `, then these texts and a number.
@@ -74,7 +76,13 @@ impl Refused {
                 &[b"catalog refused: ", file.as_slice(), b" is not JSON\n"],
             ),
             Refused::Broken { path, rule } => {
-                numbered(alloc, b"", path.as_slice(), b" breaks V", u64::from(*rule))
+                numbered(
+                    alloc,
+                    b"",
+                    path.as_slice(),
+                    b" breaks V",
+                    u64::from(rule.number()),
+                )
             }
             Refused::Syntax { file, at } => numbered(
                 alloc,
@@ -109,7 +117,7 @@ impl Refused {
                     b"table ",
                     table.as_slice(),
                     b" breaks C",
-                    u64::from(*rule),
+                    u64::from(rule.number()),
                 )
             }
         }

@@ -4,6 +4,8 @@ use Rattle.std.specs.Option.{option_or}
 use Rattle.vl_catalog.specs.declared.catalog.Catalog.{Catalog}
 use Rattle.vl_catalog.specs.declared.lookup.Lookup.{Lookup}
 use Rattle.vl_catalog.specs.declared.table.Table.{Table}
+use Rattle.vl_rules.specs.declared.catalog_rule.CatalogRule.{CatalogRule}
+use Rattle.vl_rules.specs.declared.catalog_rule.CatalogRule.TheVariants.{WithinLimits}
 use Rattle.vl_rules.specs.Limits.{passes_a_limit}
 use Rattle.vl_rules.specs.Order.{Checked, Fault, broken_rule, first_of, is_listed, lookup_broken, named, table_broken, unlisted_rule}
 
@@ -11,13 +13,13 @@ or_none : (x y : Option Fault) → option_or x y ≡ None → (x ≡ None) × (y
 or_none None y none = (refl, none)
 or_none (Some x) y none = cc
 
-unnamed : (name : List ℕ) (rule : Option ℕ) → named name rule ≡ None → rule ≡ None
+unnamed : (name : List ℕ) (rule : Option CatalogRule) → named name rule ≡ None → rule ≡ None
 unnamed name None none = refl
 unnamed name (Some rule) none = cc
 
 -- ---- the three parts
 
-without_limit : (limit : Bool) (rest : Option Fault) → (if limit then Some ([], 11) else rest) ≡ None → (limit ≡ false) × (rest ≡ None)
+without_limit : (limit : Bool) (rest : Option Fault) → (if limit then Some ([], WithinLimits) else rest) ≡ None → (limit ≡ false) × (rest ≡ None)
 without_limit true rest none = cc
 without_limit false rest none = (refl, none)
 
@@ -46,20 +48,20 @@ table_at_place catalog i (first ∷ rest) (suc n) table none at t place =
 pub no_rule_broken : (catalog : Catalog) (t : ℕ) (table : Table) → Checked catalog → slice_get catalog.tables t ≡ Some table → broken_rule catalog t table ≡ None
 no_rule_broken catalog t table checked at = table_at_place catalog 0 catalog.tables t table (both_lists catalog checked).0 at t (omega arith)
 
--- none of the tests of a list is passed
-abbrev pub AllFalse : List Bool → Type 0
+-- none of the rules of a list is broken
+abbrev pub AllFalse : List (CatalogRule × Bool) → Type 0
 AllFalse [] = Unit {0}
-AllFalse (test ∷ tests) = (test ≡ false) × AllFalse tests
+AllFalse (test ∷ tests) = (test.1 ≡ false) × AllFalse tests
 
-one_less : (n : ℕ) (test : Bool) (rest : Option ℕ) → (if test then Some n else rest) ≡ None → (test ≡ false) × (rest ≡ None)
-one_less n true rest none = cc
-one_less n false rest none = (refl, none)
+one_less : (rule : CatalogRule) (test : Bool) (rest : Option CatalogRule) → (if test then Some rule else rest) ≡ None → (test ≡ false) × (rest ≡ None)
+one_less rule true rest none = cc
+one_less rule false rest none = (refl, none)
 
-pub all_false : (n : ℕ) (tests : List Bool) → first_of n tests ≡ None → AllFalse tests
-all_false n [] none = tt
-all_false n (test ∷ tests) none =
-    let parts = one_less n test (first_of (n + 1) tests) none in
-    (parts.0, all_false (n + 1) tests parts.1)
+pub all_false : (tests : List (CatalogRule × Bool)) → first_of tests ≡ None → AllFalse tests
+all_false [] none = tt
+all_false (test ∷ tests) none =
+    let parts = one_less test.0 test.1 (first_of tests) none in
+    (parts.0, all_false tests parts.1)
 
 -- ---- lookups
 

@@ -15,7 +15,7 @@ use Rattle.vl_rules.proofs.Passed.{among_fails, not_both}
 
 -- the tests of a table of a checked catalog
 pub tests_fail : (catalog : Catalog) (t : ℕ) (table : Table) → Checked catalog → slice_get catalog.tables t ≡ Some table → AllFalse (broken_rules catalog t table)
-tests_fail catalog t table checked at = all_false 1 (broken_rules catalog t table) (no_rule_broken catalog t table checked at)
+tests_fail catalog t table checked at = all_false (broken_rules catalog t table) (no_rule_broken catalog t table checked at)
 
 none_breaks : (catalog : Catalog) (t : ℕ) (table : Table) → AllFalse (broken_rules catalog t table) → (rule : LookupRule) → any_breaks rule catalog t table ≡ false
 none_breaks catalog t table fail C6 = fail.1.1.1.1.1.0

@@ -8,6 +8,7 @@ use Rattle.vl_catalog.specs.declared.lookup.Lookup.{Lookup}
 use Rattle.vl_catalog.specs.declared.table.Table.{Table}
 use Rattle.vl_catalog.specs.declared.vindex.Vindex.TheVariants.{Numeric}
 use Rattle.vl_catalog.specs.CatalogA.{column, column_vindex}
+use Rattle.vl_rules.specs.declared.catalog_rule.CatalogRule.TheVariants.{UniqueTableName, PrimaryVindexInKey, OwnerListsLookup}
 use Rattle.vl_rules.specs.Order.{Checked, first_broken}
 
 abbrev range : List ℕ → List ℕ → Range
@@ -67,18 +68,18 @@ with_tables owner table lookup = record {
 two_keyspaces_checked : Checked (with_tables corder corder_order_idx corder_order)
 two_keyspaces_checked = refl
 
-off_key : first_broken (with_tables (record corder { key = 1 ∷ [] }) corder_order_idx corder_order) ≡ Some (codes "corder", 4)
+off_key : first_broken (with_tables (record corder { key = 1 ∷ [] }) corder_order_idx corder_order) ≡ Some (codes "corder", PrimaryVindexInKey)
 off_key = refl
 
-off_name : first_broken (with_tables corder (record corder_order_idx { name = codes "corder" }) corder_order) ≡ Some (codes "corder", 1)
+off_name : first_broken (with_tables corder (record corder_order_idx { name = codes "corder" }) corder_order) ≡ Some (codes "corder", UniqueTableName)
 off_name = refl
 
-off_owner : first_broken (with_tables corder corder_order_idx (record corder_order { owner = None; owner_name = codes "nobody" })) ≡ Some (codes "corder", 8)
+off_owner : first_broken (with_tables corder corder_order_idx (record corder_order { owner = None; owner_name = codes "nobody" })) ≡ Some (codes "corder", OwnerListsLookup)
 off_owner = refl
 
 -- where no table lists the lookup, it comes after the tables, by its owner's name as written
 unlisted : first_broken
     (with_tables (record corder { lookups = []; column_vindexes = column_vindex (codes "customer_id") (codes "num") ∷ [] }) corder_order_idx
     (record corder_order { owner = None; owner_name = codes "nobody" }))
-    ≡ Some (codes "nobody", 8)
+    ≡ Some (codes "nobody", OwnerListsLookup)
 unlisted = refl

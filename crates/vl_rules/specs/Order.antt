@@ -8,6 +8,8 @@ use Rattle.vl_catalog.specs.declared.lookup.Lookup.{Lookup}
 use Rattle.vl_catalog.specs.declared.table.Table.{Table}
 use Rattle.vl_rules.specs.declared.catalog_fault.CatalogFault.{CatalogFault}
 use Rattle.vl_rules.specs.declared.catalog_fault.CatalogFault.TheVariants.{Broken, Memory}
+use Rattle.vl_rules.specs.declared.catalog_rule.CatalogRule.{CatalogRule}
+use Rattle.vl_rules.specs.declared.catalog_rule.CatalogRule.TheVariants.{UniqueTableName, DefinedTable, PrimaryVindexFirst, PrimaryVindexInKey, NumericOnNumber, LookupTable, FromColumns, OwnerListsLookup, LookupTablePlacement, NotWriteOnly, WithinLimits, OneColumnVindex, OneLookupTable, OwnerPlacement}
 use Rattle.vl_rules.specs.declared.lookup_rule.LookupRule.{LookupRule}
 use Rattle.vl_rules.specs.declared.lookup_rule.LookupRule.TheVariants.{C6, C7, C8, C9, C10, C13, C14}
 use Rattle.vl_rules.specs.Limits.{breaks_c11, passes_a_limit}
@@ -16,7 +18,7 @@ use Rattle.vl_rules.specs.Tables.{breaks_c1, breaks_c2, breaks_c3, breaks_c4, br
 
 -- the name of a table, and the rule that it breaks
 abbrev pub Fault : Type 0
-Fault = List ℕ × ℕ
+Fault = List ℕ × CatalogRule
 
 -- ---- the rules about a lookup
 
@@ -45,36 +47,36 @@ any_breaks rule catalog i table =
 
 -- ---- the order of the rules
 
--- whether the table at place i breaks C1, C2 and so on
-abbrev pub broken_rules : Catalog → ℕ → Table → List Bool
+-- the rules in their order, each with whether the table at place i breaks it
+abbrev pub broken_rules : Catalog → ℕ → Table → List (CatalogRule × Bool)
 broken_rules catalog i table =
-    breaks_c1 catalog i table
-    ∷ breaks_c2 catalog table
-    ∷ breaks_c3 catalog table
-    ∷ breaks_c4 catalog table
-    ∷ breaks_c5 catalog table
-    ∷ any_breaks C6 catalog i table
-    ∷ any_breaks C7 catalog i table
-    ∷ any_breaks C8 catalog i table
-    ∷ any_breaks C9 catalog i table
-    ∷ any_breaks C10 catalog i table
-    ∷ breaks_c11 table
-    ∷ breaks_c12 catalog table
-    ∷ any_breaks C13 catalog i table
-    ∷ any_breaks C14 catalog i table
+    (UniqueTableName, breaks_c1 catalog i table)
+    ∷ (DefinedTable, breaks_c2 catalog table)
+    ∷ (PrimaryVindexFirst, breaks_c3 catalog table)
+    ∷ (PrimaryVindexInKey, breaks_c4 catalog table)
+    ∷ (NumericOnNumber, breaks_c5 catalog table)
+    ∷ (LookupTable, any_breaks C6 catalog i table)
+    ∷ (FromColumns, any_breaks C7 catalog i table)
+    ∷ (OwnerListsLookup, any_breaks C8 catalog i table)
+    ∷ (LookupTablePlacement, any_breaks C9 catalog i table)
+    ∷ (NotWriteOnly, any_breaks C10 catalog i table)
+    ∷ (WithinLimits, breaks_c11 table)
+    ∷ (OneColumnVindex, breaks_c12 catalog table)
+    ∷ (OneLookupTable, any_breaks C13 catalog i table)
+    ∷ (OwnerPlacement, any_breaks C14 catalog i table)
     ∷ []
 
--- the number of the first that is broken, the first of them being number n
-abbrev pub first_of : ℕ → List Bool → Option ℕ
-first_of n [] = None
-first_of n (broken ∷ rest) = if broken then Some n else first_of (n + 1) rest
+-- the first that is broken
+abbrev pub first_of : List (CatalogRule × Bool) → Option CatalogRule
+first_of [] = None
+first_of (test ∷ rest) = if test.1 then Some test.0 else first_of rest
 
-abbrev pub broken_rule : Catalog → ℕ → Table → Option ℕ
-broken_rule catalog i table = first_of 1 (broken_rules catalog i table)
+abbrev pub broken_rule : Catalog → ℕ → Table → Option CatalogRule
+broken_rule catalog i table = first_of (broken_rules catalog i table)
 
 -- ---- the order of the tables
 
-abbrev pub named : List ℕ → Option ℕ → Option Fault
+abbrev pub named : List ℕ → Option CatalogRule → Option Fault
 named name rule = option_map (λ r. (name, r)) rule
 
 -- the first of the tables from place i on
@@ -86,8 +88,8 @@ abbrev pub is_listed : Catalog → ℕ → Bool
 is_listed catalog l = list_any (lists_lookup l) catalog.tables
 
 -- no table lists the lookup: its table is looked at, and then that
-abbrev pub unlisted_rule : Catalog → Lookup → ℕ
-unlisted_rule catalog lookup = if breaks_c6 catalog lookup then 6 else 8
+abbrev pub unlisted_rule : Catalog → Lookup → CatalogRule
+unlisted_rule catalog lookup = if breaks_c6 catalog lookup then LookupTable else OwnerListsLookup
 
 -- the first of the lookups from number l on that no table lists, with its owner's name as written
 abbrev pub lookup_broken : Catalog → ℕ → List Lookup → Option Fault
@@ -98,7 +100,7 @@ lookup_broken catalog l (lookup ∷ rest) =
 -- the limits of the whole catalog, which name no table; then table by table; then the lookups that none lists
 abbrev pub first_broken : Catalog → Option Fault
 first_broken catalog =
-    if passes_a_limit catalog then Some ([], 11)
+    if passes_a_limit catalog then Some ([], WithinLimits)
     else option_or (table_broken catalog 0 catalog.tables) (lookup_broken catalog 0 catalog.lookups)
 
 -- the catalog keeps C1 to C14
@@ -112,5 +114,5 @@ Answers (Err (Broken table rule)) fault = fault ≡ Some (table, rule)
 Answers (Err Memory) fault = IsSome fault
 
 -- what a name and a rule that are passed by reference say
-abbrev pub fault_told : Option (Bor (List ℕ) × ℕ) → Option Fault
-fault_told told = option_map (λ (f : Bor (List ℕ) × ℕ). (f.0.now, f.1)) told
+abbrev pub fault_told : Option (Bor (List ℕ) × CatalogRule) → Option Fault
+fault_told told = option_map (λ (f : Bor (List ℕ) × CatalogRule). (f.0.now, f.1)) told

@@ -9,6 +9,7 @@
 #![tactic(auto)]
 
 mod catalog_fault;
+mod catalog_rule;
 mod check;
 mod column_vindexes;
 mod from_columns;
@@ -26,4 +27,5 @@ mod test_changes;
 mod tests;
 
 pub use crate::catalog_fault::CatalogFault;
+pub use crate::catalog_rule::CatalogRule;
 pub use crate::check::Check;

@@ -2,6 +2,7 @@ ghost use Rattle.std.specs.Prelude.{◌≡◌, ◌<◌, ◌≤◌, ℕ, Option, 
 ghost use Rattle.std.specs.List.{list_any};
 ghost use Rattle.vl_rules.specs.Order.{any_breaks, breaks, breaks_at, broken_rule, fault_told, first_broken, is_first_listing, is_listed, lookup_broken, table_broken, unlisted_rule};
 
+use crate::catalog_rule::CatalogRule;
 use crate::from_columns::breaks_c7;
 use crate::limits::{breaks_c11, passes_a_limit};
 use crate::lookup_rule::LookupRule;
@@ -71,57 +72,57 @@ fn any_breaks(rule: LookupRule, catalog: &Catalog, place: usize, table: &Table) 
 }
 
 // The first rule that the table at this place breaks.
-fn broken_rule(catalog: &Catalog, place: usize, table: &Table) -> Option<u8>
+fn broken_rule(catalog: &Catalog, place: usize, table: &Table) -> Option<CatalogRule>
     requires { place < length catalog.now.tables }
     ensures { result ≡ broken_rule catalog.now place table.now }
 {
     if breaks_c1(catalog, place, table) {
-        return Some(1);
+        return Some(CatalogRule::UniqueTableName);
     }
     if breaks_c2(catalog, table) {
-        return Some(2);
+        return Some(CatalogRule::DefinedTable);
     }
     if breaks_c3(catalog, table) {
-        return Some(3);
+        return Some(CatalogRule::PrimaryVindexFirst);
     }
     if breaks_c4(catalog, table) {
-        return Some(4);
+        return Some(CatalogRule::PrimaryVindexInKey);
     }
     if breaks_c5(catalog, table) {
-        return Some(5);
+        return Some(CatalogRule::NumericOnNumber);
     }
     if any_breaks(LookupRule::C6, catalog, place, table) {
-        return Some(6);
+        return Some(CatalogRule::LookupTable);
     }
     if any_breaks(LookupRule::C7, catalog, place, table) {
-        return Some(7);
+        return Some(CatalogRule::FromColumns);
     }
     if any_breaks(LookupRule::C8, catalog, place, table) {
-        return Some(8);
+        return Some(CatalogRule::OwnerListsLookup);
     }
     if any_breaks(LookupRule::C9, catalog, place, table) {
-        return Some(9);
+        return Some(CatalogRule::LookupTablePlacement);
     }
     if any_breaks(LookupRule::C10, catalog, place, table) {
-        return Some(10);
+        return Some(CatalogRule::NotWriteOnly);
     }
     if breaks_c11(table) {
-        return Some(11);
+        return Some(CatalogRule::WithinLimits);
     }
     if breaks_c12(catalog, table) {
-        return Some(12);
+        return Some(CatalogRule::OneColumnVindex);
     }
     if any_breaks(LookupRule::C13, catalog, place, table) {
-        return Some(13);
+        return Some(CatalogRule::OneLookupTable);
     }
     if any_breaks(LookupRule::C14, catalog, place, table) {
-        return Some(14);
+        return Some(CatalogRule::OwnerPlacement);
     }
     None
 }
 
 // The first table that breaks a rule, by its name, with the first rule that it breaks.
-fn table_broken(catalog: &Catalog) -> Option<(&[u8], u8)>
+fn table_broken(catalog: &Catalog) -> Option<(&[u8], CatalogRule)>
     ensures { fault_told result ≡ table_broken catalog.now 0 catalog.now.tables }
 {
     for (place, table) in catalog.tables.as_slice().iter().enumerate() {
@@ -138,14 +139,18 @@ fn is_listed(catalog: &Catalog, number: usize) -> bool
     any_lists(catalog.tables.as_slice(), number)
 }
 
-fn unlisted_rule(catalog: &Catalog, lookup: &Lookup) -> u8
+fn unlisted_rule(catalog: &Catalog, lookup: &Lookup) -> CatalogRule
     ensures { result ≡ unlisted_rule catalog.now lookup.now }
 {
-    if breaks_c6(catalog, lookup) { 6 } else { 8 }
+    if breaks_c6(catalog, lookup) {
+        CatalogRule::LookupTable
+    } else {
+        CatalogRule::OwnerListsLookup
+    }
 }
 
 // The first lookup that no table lists, by its owner's name, with the first rule that it breaks.
-fn lookup_broken(catalog: &Catalog) -> Option<(&[u8], u8)>
+fn lookup_broken(catalog: &Catalog) -> Option<(&[u8], CatalogRule)>
     ensures { fault_told result ≡ lookup_broken catalog.now 0 catalog.now.lookups }
 {
     for (number, lookup) in catalog.lookups.as_slice().iter().enumerate() {
@@ -158,11 +163,11 @@ fn lookup_broken(catalog: &Catalog) -> Option<(&[u8], u8)>
 }
 
 // The first broken rule, with the name of its table.
-pub(crate) fn first_broken(catalog: &Catalog) -> Option<(&[u8], u8)>
+pub(crate) fn first_broken(catalog: &Catalog) -> Option<(&[u8], CatalogRule)>
     ensures { fault_told result ≡ first_broken catalog.now }
 {
     if passes_a_limit(catalog) {
-        return Some((&[], 11));
+        return Some((&[], CatalogRule::WithinLimits));
     }
     match table_broken(catalog) {
         Some(fault) => Some(fault),

@@ -21,7 +21,8 @@ fn answer(alloc: Global, catalog: &Catalog) -> Result<String, Fail> {
         Ok(()) => Ok(String::from_str(alloc, "kept")?),
         Err(CatalogFault::Broken { table, rule }) => {
             let name = String::from_utf8(table.into_vec()).ok().ok_or("a text")?;
-            Ok(format!(in alloc; "{name} {rule}")?)
+            let number = rule.number();
+            Ok(format!(in alloc; "{name} {number}")?)
         }
         Err(CatalogFault::Memory) => Err("ample memory".into()),
     }

@@ -1,4 +1,5 @@
 pub mod LeastPath
 pub mod NameSteps
 pub mod Ordering
+pub mod Rules
 pub mod Viewing

@@ -2,6 +2,8 @@
 use Rattle.std.specs.Prelude.{ℕ, ◌&&◌, ◌||◌, codes, List, [], ◌∷◌, ◌++◌, Bool, true, false, not, if◌then◌else◌, Option, is_some, option_and_then}
 use Rattle.serde_json.specs.Data.{Data}
 use Rattle.serde_json.specs.Find.{get, as_bool, as_str, as_array, as_object}
+use Rattle.vl_vschema.specs.declared.vschema_rule.VschemaRule.{VschemaRule}
+use Rattle.vl_vschema.specs.declared.vschema_rule.VschemaRule.TheVariants.{MemberKind, VindexType, LookupMembers, ColumnVindex, PlainTable, LookupFlag}
 use Rattle.vl_vschema.specs.Json.{has, is_this, is_text, text_at, Look, unless, here, at_member, each_member, each_item}
 use Rattle.vl_vschema.specs.Path.{child}
 
@@ -122,6 +124,11 @@ wrong_flags = at_member (codes "vindexes") (each_member lookup_flags)
 
 -- ---- rule by rule
 
--- the paths that break each rule of a VSchema file, from V1 on
-abbrev pub breaks : Data → List (List (List ℕ))
-breaks d = wrong_kinds [] d ∷ unknown_types [] d ∷ lacking_lookups [] d ∷ wrong_column_vindexes [] d ∷ special_tables [] d ∷ wrong_flags [] d ∷ []
+-- the paths that break each rule of a VSchema file
+abbrev pub breaks : Data → VschemaRule → List (List ℕ)
+breaks d MemberKind = wrong_kinds [] d
+breaks d VindexType = unknown_types [] d
+breaks d LookupMembers = lacking_lookups [] d
+breaks d ColumnVindex = wrong_column_vindexes [] d
+breaks d PlainTable = special_tables [] d
+breaks d LookupFlag = wrong_flags [] d

@@ -1,8 +1,10 @@
 -- Which paths of a catalog file break V1, and what the file means.
-use Rattle.std.specs.Prelude.{ℕ, ◌&&◌, decimal, codes, List, [], ◌∷◌, ◌++◌, map, take, Bool, false, not, Option, Some, None}
+use Rattle.std.specs.Prelude.{ℕ, ◌&&◌, decimal, codes, List, [], ◌++◌, map, take, Bool, false, not, Option, Some, None}
 use Rattle.std.specs.List.{flat_map, enumerate_from, list_any}
 use Rattle.serde_json.specs.Data.{Data}
 use Rattle.vl_vschema.specs.declared.keyspace_file.KeyspaceFile.{KeyspaceFile}
+use Rattle.vl_vschema.specs.declared.vschema_rule.VschemaRule.{VschemaRule}
+use Rattle.vl_vschema.specs.declared.vschema_rule.VschemaRule.TheVariants.{MemberKind, VindexType, LookupMembers, ColumnVindex, PlainTable, LookupFlag}
 use Rattle.vl_vschema.specs.Breaking.{not_text, in_object, in_list}
 use Rattle.vl_vschema.specs.Json.{has, is_this, text_at, items_of, Look, unless, at_member, each_item}
 use Rattle.vl_vschema.specs.Path.{child}
@@ -39,8 +41,13 @@ abbrev pub taken_names : Look
 taken_names path d = flat_map (taken_name path (items_of d)) (enumerate_from 0 (items_of d))
 
 -- the paths that break each rule of a catalog file: it has V1 alone
-abbrev pub catalog_breaks : Data → List (List (List ℕ))
-catalog_breaks d = (in_object catalog_kinds [] d ++ at_member (codes "keyspaces") taken_names [] d) ∷ []
+abbrev pub catalog_breaks : Data → VschemaRule → List (List ℕ)
+catalog_breaks d MemberKind = in_object catalog_kinds [] d ++ at_member (codes "keyspaces") taken_names [] d
+catalog_breaks d VindexType = []
+catalog_breaks d LookupMembers = []
+catalog_breaks d ColumnVindex = []
+catalog_breaks d PlainTable = []
+catalog_breaks d LookupFlag = []
 
 abbrev pub keyspace_of : Data → KeyspaceFile
 keyspace_of d = record {

@@ -4,5 +4,6 @@ pub mod Document
 pub mod Ignored
 pub mod Json
 pub mod Path
+pub mod RuleNumber
 pub mod Sink
 pub mod Vschema

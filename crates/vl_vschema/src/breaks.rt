@@ -2,7 +2,7 @@ ghost use Rattle.std.specs.Prelude.{◌≡◌, [], codes, OnOk, IfOk, MatchOptio
 ghost use Rattle.serde_json.specs.View.{view};
 ghost use Rattle.vl_vschema.specs.Breaking.{breaks, wrong_column_vindexes};
 ghost use Rattle.vl_vschema.specs.Json.{at_member, each_member};
-ghost use Rattle.vl_vschema.specs.Document.{breaking, IsLeastOf, IsLeast, IsSound};
+ghost use Rattle.vl_vschema.specs.Document.{IsLeastOf, IsLeast, IsSound};
 
 use crate::finder::Finder;
 use crate::kinds::{InObject, VschemaKinds};
@@ -13,13 +13,21 @@ use crate::path::Path;
 use crate::path_sink::PathSink;
 use crate::special_table::SpecialTable;
 use crate::unknown_type::UnknownType;
+use crate::vschema_rule::VschemaRule;
 use crate::walk::{At, EachItem, EachMember, look_at};
 use crate::wrong_column_vindex::WrongColumnVindex;
 use serde_json::Value;
 use std::alloc::{AllocError, Global};
 
-// V1 to V6.
-const RULES: u8 = 6;
+// In their order.
+const RULES: [VschemaRule; 6] = [
+    VschemaRule::MemberKind,
+    VschemaRule::VindexType,
+    VschemaRule::LookupMembers,
+    VschemaRule::ColumnVindex,
+    VschemaRule::PlainTable,
+    VschemaRule::LookupFlag,
+];
 
 // Looks in each vindex.
 fn find_in_vindexes<F: Finder + Drop, S: PathSink>(
@@ -67,30 +75,38 @@ fn find_wrong_column_vindexes<S: PathSink>(
     find_in_tables(in_table, alloc, file, sink)
 }
 
-// What breaks this rule, counted from 1.
+// What breaks this rule.
 fn find_breaking<S: PathSink>(
-    rule: u8,
+    rule: VschemaRule,
     alloc: Global,
     file: &Value,
     sink: &mut S,
 ) -> Result<(), AllocError>
     ensures { OnOk result (sink.new
-        ≡ fold S.with sink.old (breaking (breaks (view file.now)) rule)) }
+        ≡ fold S.with sink.old (breaks (view file.now) rule)) }
 {
     match rule {
-        1 => InObject(VschemaKinds).find(alloc, &Path::root(alloc), file, sink),
-        2 => find_in_vindexes(UnknownType, alloc, file, sink),
-        3 => find_in_vindexes(LookupLacks, alloc, file, sink),
-        4 => find_wrong_column_vindexes(alloc, file, sink),
-        5 => find_in_tables(SpecialTable, alloc, file, sink),
-        6 => find_in_vindexes(LookupFlags, alloc, file, sink),
-        _ => Ok(()),
+        VschemaRule::MemberKind => InObject(VschemaKinds).find(
+            alloc,
+            &Path::root(alloc),
+            file,
+            sink,
+        ),
+        VschemaRule::VindexType => find_in_vindexes(UnknownType, alloc, file, sink),
+        VschemaRule::LookupMembers => find_in_vindexes(LookupLacks, alloc, file, sink),
+        VschemaRule::ColumnVindex => find_wrong_column_vindexes(alloc, file, sink),
+        VschemaRule::PlainTable => find_in_tables(SpecialTable, alloc, file, sink),
+        VschemaRule::LookupFlag => find_in_vindexes(LookupFlags, alloc, file, sink),
     }
 }
 
-// The least path that breaks this rule, counted from 1.
-fn least_breaking(rule: u8, alloc: Global, file: &Value) -> Result<Option<Path>, AllocError>
-    ensures { IfOk result (IsLeastOf (breaking (breaks (view file.now)) rule)) }
+// The least path that breaks this rule.
+fn least_breaking(
+    rule: VschemaRule,
+    alloc: Global,
+    file: &Value,
+) -> Result<Option<Path>, AllocError>
+    ensures { IfOk result (IsLeastOf (breaks (view file.now) rule)) }
 {
     let mut least = Least::new();
     find_breaking(rule, alloc, file, &mut least)?;
@@ -98,13 +114,16 @@ fn least_breaking(rule: u8, alloc: Global, file: &Value) -> Result<Option<Path>,
 }
 
 /// The least rule that is broken, and of it the least path.
-pub(crate) fn first_broken(alloc: Global, file: &Value) -> Result<Option<(u8, Path)>, AllocError>
+pub(crate) fn first_broken(
+    alloc: Global,
+    file: &Value,
+) -> Result<Option<(VschemaRule, Path)>, AllocError>
     ensures { IfOk result (λ fault. MatchOption fault (IsSound (breaks (view file.now)))
         (λ f. IsLeast (breaks (view file.now)) f.0 f.1)) }
 {
-    for rule in 0..RULES + 1 {
-        if let Some(path) = least_breaking(rule, alloc, file)? {
-            return Ok(Some((rule, path)));
+    for rule in RULES.iter() {
+        if let Some(path) = least_breaking(*rule, alloc, file)? {
+            return Ok(Some((*rule, path)));
         }
     }
     Ok(None)

@@ -2,7 +2,8 @@ ghost use Rattle.std.specs.Prelude.{◌≡◌, [], codes, map, IfOk, IfErr};
 ghost use Rattle.serde_json.specs.Data.{Data};
 ghost use Rattle.serde_json.specs.View.{view};
 ghost use Rattle.vl_vschema.specs.CatalogFile.{catalog_breaks, keyspace_of, keyspaces_of};
-ghost use Rattle.vl_vschema.specs.Document.{breaking, IsJson, IsLeastOf, IsRefusal, IsSound};
+ghost use Rattle.vl_vschema.specs.Document.{IsJson, IsLeastOf, IsRefusal, IsSound};
+ghost use Rattle.vl_vschema.specs.declared.vschema_rule.VschemaRule.TheVariants.{MemberKind};
 ghost use Rattle.vl_vschema.specs.Vschema.{items_named};
 
 use crate::catalog_kinds::CatalogKinds;
@@ -17,6 +18,7 @@ use crate::path::Path;
 use crate::table_vschema::texts;
 use crate::taken_names::TakenNames;
 use crate::vschema_fault::VschemaFault;
+use crate::vschema_rule::VschemaRule;
 use crate::walk::look_at;
 use serde_json::Value;
 use std::alloc::{AllocError, Global};
@@ -25,7 +27,7 @@ use vl_values::items::Items;
 
 // The least path that breaks V1.
 fn least_breaking(alloc: Global, file: &Value) -> Result<Option<Path>, AllocError>
-    ensures { IfOk result (IsLeastOf (breaking (catalog_breaks (view file.now)) 1)) }
+    ensures { IfOk result (IsLeastOf (catalog_breaks (view file.now) MemberKind)) }
 {
     let root = Path::root(alloc);
     let mut least = Least::new();
@@ -61,8 +63,8 @@ fn keyspace_files(alloc: Global, file: &Value) -> Result<Vec<KeyspaceFile>, Allo
     Ok(found)
 }
 
-/// Reads a catalog file: its keyspaces, in its order. `Broken` has rule 1 and the least path that
-/// breaks it; `Memory` may come at any file.
+/// Reads a catalog file: its keyspaces, in its order. `Broken` has V1 and the least path that breaks
+/// it; `Memory` may come at any file.
 pub fn read_catalog(alloc: Global, bytes: &[u8]) -> Result<Items<KeyspaceFile>, VschemaFault>
     ensures ok { IfOk result (λ keyspaces. (d : Data) × IsJson bytes.now d
         × IsSound (catalog_breaks d) × (keyspaces ≡ keyspaces_of d)) }
@@ -77,7 +79,7 @@ pub fn read_catalog(alloc: Global, bytes: &[u8]) -> Result<Items<KeyspaceFile>, 
         Ok(Some(path)) => {
             return Err(VschemaFault::Broken {
                 path: path.into_bytes(),
-                rule: 1,
+                rule: VschemaRule::MemberKind,
             });
         }
         Err(_) => return Err(VschemaFault::Memory),

@@ -34,6 +34,7 @@ mod unknown_type;
 mod vindex_def;
 mod vschema_fault;
 mod vschema_file;
+mod vschema_rule;
 mod walk;
 mod wrong_column_vindex;
 
@@ -43,3 +44,4 @@ pub use crate::keyspace_file::KeyspaceFile;
 pub use crate::listing::listing_of;
 pub use crate::vschema_fault::VschemaFault;
 pub use crate::vschema_file::read_vschema;
+pub use crate::vschema_rule::VschemaRule;

@@ -5,10 +5,10 @@ use vl_catalog::{LookupDef, TableVschema, VindexDef, VindexKind};
 use vl_values::bytes::Bytes;
 use vl_values::items::Items;
 
-// The rule that refuses a file, and the path; rule 0 where it isn't JSON.
+// The number of the rule that refuses a file, and the path.
 fn refusal(fault: VschemaFault) -> Result<(u8, Vec<u8>), Fail> {
     match fault {
-        VschemaFault::Broken { path, rule } => Ok((rule, path.into_vec())),
+        VschemaFault::Broken { path, rule } => Ok((rule.number(), path.into_vec())),
         VschemaFault::NotJson => Err("is not JSON".into()),
         VschemaFault::Memory => Err("no memory".into()),
     }
