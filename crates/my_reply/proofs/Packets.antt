@@ -1,10 +1,10 @@
 -- Packets that are written one after another.
-use Rattle.std.proofs.Common.{◌≡◌, ◌∙◌, ℕ, suc, ◌+◌, ◌-◌, ◌*◌, ◌^◌, ◌<◌, ◌≤◌, ltb, List, [], ◌∷◌, ◌++◌, length, map, drop, get_or, All, refl, sym, ap, append_assoc, arith, true, false, inl, inr}
+use Rattle.std.proofs.Common.{◌≡◌, ◌∙◌, ℕ, suc, ◌-◌, ◌*◌, ◌^◌, ◌<◌, ◌≤◌, ltb, List, [], ◌∷◌, ◌++◌, length, All, ap, append_assoc, arith, true, false, inl, inr}
 use Rattle.std.proofs.lemmas.Bool.{cases_lt, lt-ltb, le-ltb}
 use Rattle.std.proofs.lemmas.List.{length-append}
 use Rattle.my_reply.specs.Fields.{length_encoded, text_bytes}
 use Rattle.my_reply.specs.Reply.{IsShortValue, IsShortRow}
-use Rattle.my_reply.specs.ResultSet.{framed, framed_from, next_number, row_payload, value_bytes}
+use Rattle.my_reply.specs.ResultSet.{row_payload, value_bytes}
 use Rattle.vl_values.specs.declared.value.Value.{Value}
 use Rattle.vl_values.specs.declared.value.Value.TheVariants.{Null, Int, Uint, Bytes}
 

@@ -1,16 +1,16 @@
 -- What was written of a reply is read.
-use Rattle.std.proofs.Common.{◌≡◌, ℕ, ◌+◌, ◌*◌, ◌/◌, ◌%◌, ◌^◌, ◌<◌, ◌≤◌, Bool, true, false, cond, ltb, List, ◌∷◌, ◌++◌, length, Some, Result, Ok, Err, refl, ap, ◌∙◌, arith, inl, inr}
-use Rattle.std.specs.Prelude.{bit_and, nat_eq}
-use Rattle.std.specs.Int.{w64, to_le_bytes, bytes_low_first}
-use Rattle.std.proofs.lemmas.Bool.{cases_lt, lt-ltb, le-ltb}
-use Rattle.std.proofs.lemmas.List.{take_at, drop_at, length-append, length-take}
-use Rattle.std.proofs.lemmas.Nat.{from_le_bytes-to_le_bytes_2, from_le_bytes-to_le_bytes_8}
-use Rattle.my_packet.proofs.Streams.{announced-header}
-use Rattle.my_reply.specs.Fields.{two_bytes, length_encoded, status_flags, counted}
-use Rattle.my_reply.specs.Reading.{Read, two_at, three_at, eight_at, number_at, ok_at, state_at, err_at, payload_at, whole_at, reply_at, wire_of, Fits}
-use Rattle.my_reply.specs.Reply.{ok_payload, err_payload, reply_bytes, framed}
+use Rattle.std.proofs.Common.{◌≡◌, ◌∙◌, ℕ, ◌^◌, ◌<◌, ◌≤◌, Bool, true, false, cond, ltb, nat_eq, List, [], ◌∷◌, ◌++◌, length, map, None, Result, Ok, Err, refl, ap, sym, arith, inl, inr}
+use Rattle.std.specs.Prelude.{bit_and}
+use Rattle.std.proofs.lemmas.Bool.{cases_lt, lt-ltb, le-ltb, ne_eqb}
+use Rattle.std.proofs.lemmas.List.{append-nil, length-append, length-take, length-map}
+use Rattle.my_reply.specs.Decoding.{count_at, set_at, told_at, reply_at, wire_of, Fits}
+use Rattle.my_reply.specs.Fields.{length_encoded, status_flags, counted}
+use Rattle.my_reply.specs.Reading.{state_at}
+use Rattle.my_reply.specs.Reply.{ok_payload, err_payload, early_err_payload, bytes_for}
+use Rattle.my_reply.specs.ResultSet.{framed, framed_from, next_number, column_payload, row_payload, eof_payload}
 use Rattle.my_reply.specs.declared.wire.Wire.{Wire}
-use Rattle.my_reply.specs.declared.wire.Wire.TheVariants as wires
+use Rattle.my_reply.proofs.OneAgain.{number_again, ok_again, err_again, early_again}
+use Rattle.my_reply.proofs.SetAgain.{header_again, bytes_again, columns_again, eof_packet_again, rows_again, packets_long, number_after}
 use Rattle.vl_values.specs.Cause.{sql_state, cause_text}
 use Rattle.vl_values.specs.Piece.{flatten}
 use Rattle.vl_values.specs.Cause.{message}
@@ -18,70 +18,17 @@ use Rattle.vl_values.specs.declared.cause.Cause.{Cause}
 use Rattle.vl_values.specs.declared.cause.Cause.TheVariants.{OutOfMemory}
 use Rattle.vl_values.specs.declared.reply.Reply.{Reply}
 use Rattle.vl_values.specs.declared.reply.Reply.TheVariants as replies
+use Rattle.vl_values.specs.declared.reply_column.ReplyColumn.{ReplyColumn}
+use Rattle.vl_values.specs.declared.value.Value.{Value}
 
-abbrev read : {A : Type 0} → A → List ℕ → Read A
-read x rest = Ok (x, rest)
+-- ---- the first packet
 
-pub two_again : (n : ℕ) (rest : List ℕ) → n < 2 ^ 16 → two_at (two_bytes n ++ rest) ≡ Ok (n, rest)
-two_again n rest lt =
-    let long : ltb (length (two_bytes n ++ rest)) 2 ≡ false = le-ltb _ _ (omega arith) in
-    rw long (ap (λ (k : ℕ). read k rest) (from_le_bytes-to_le_bytes_2 n lt))
-
-three_again : (n : ℕ) (rest : List ℕ) → n < 2 ^ 24 → three_at (bytes_low_first 0 3 n ++ rest) ≡ Ok (n, rest)
-three_again n rest lt =
-    let long : ltb (length (bytes_low_first 0 3 n ++ rest)) 3 ≡ false = le-ltb _ _ (omega arith) in
-    rw long (ap (λ (k : ℕ). read k rest) (omega arith))
-
-eight_again : (n : ℕ) (rest : List ℕ) → n < 2 ^ 64 → eight_at (to_le_bytes w64 n ++ rest) ≡ Ok (n, rest)
-eight_again n rest lt =
-    let long : ltb (length (to_le_bytes w64 n ++ rest)) 8 ≡ false = le-ltb _ _ (omega arith) in
-    rw long (ap (λ (k : ℕ). read k rest) (from_le_bytes-to_le_bytes_8 n lt))
-
-pub number_again : (n : ℕ) (rest : List ℕ) → n < 2 ^ 64 → number_at (length_encoded n ++ rest) ≡ Ok (n, rest)
-unfolding number_at
-number_again n rest lt =
-    elim (cases_lt n 251) [
-      | inl small ↦ (let t : ltb n 251 ≡ true = lt-ltb _ _ small in rw (t, t) refl)
-      | inr le ↦ (let f : ltb n 251 ≡ false = le-ltb _ _ le in
-          elim (cases_lt n (2 ^ 16)) [
-            | inl two ↦ (let t : ltb n (2 ^ 16) ≡ true = lt-ltb _ _ two in rw (f, t) (two_again n rest two))
-            | inr le2 ↦ (let f2 : ltb n (2 ^ 16) ≡ false = le-ltb _ _ le2 in
-                elim (cases_lt n (2 ^ 24)) [
-                  | inl three ↦ (let t : ltb n (2 ^ 24) ≡ true = lt-ltb _ _ three in rw (f, f2, t) (three_again n rest three))
-                  | inr le3 ↦ (let f3 : ltb n (2 ^ 24) ≡ false = le-ltb _ _ le3 in rw (f, f2, f3) (eight_again n rest lt))
-                ])
-          ])
-    ]
-
-zero_again : (rest : List ℕ) → number_at (0 ∷ rest) ≡ Ok (0, rest)
-unfolding number_at
-zero_again rest = refl
-
-ok_again : (rows status warnings : ℕ) → rows < 2 ^ 64 → status < 2 ^ 16 → warnings < 2 ^ 16 → payload_at (ok_payload rows status warnings) ≡ Ok (wires.Ok rows 0 status warnings)
-unfolding payload_at ok_at
-ok_again rows status warnings r s w =
-    let first : status % 256 + status / 256 % 256 * 256 ≡ status = omega arith in
-    let second : warnings % 256 + warnings / 256 % 256 * 256 ≡ warnings = omega arith in
-    rw (number_again rows (0 ∷ two_bytes status ++ two_bytes warnings) r, zero_again (two_bytes status ++ two_bytes warnings), first, second) refl
-
-state_again : (state text : List ℕ) → length state ≡ 5 → state_at (35 ∷ state ++ text) ≡ Ok (Some state, text)
-unfolding state_at
-state_again state text five =
-    let long : ltb (length (state ++ text)) 5 ≡ false = le-ltb _ _ (omega (arith, length-append state text)) in
-    rw (long, take_at state text 5 five, drop_at state text 5 five) refl
-
-err_again : (code : ℕ) (state text : List ℕ) → code < 2 ^ 16 → length state ≡ 5 → length text ≤ 512 → payload_at (err_payload code state text) ≡ Ok (wires.Err code (Some state) text)
-unfolding payload_at err_at
-err_again code state text c s t =
-    let short : ltb 512 (length text) ≡ false = le-ltb _ _ t in
-    rw (two_again code (35 ∷ state ++ text) c, state_again state text s, short) refl
-
--- a packet is read as its payload is
-framed_again : (payload : List ℕ) (seq : ℕ) → reply_at (framed payload seq) ≡ payload_at payload
+first_told : (payload more : List ℕ) (seq : ℕ) → reply_at (framed payload seq ++ more) ≡ told_at seq payload more
 unfolding reply_at
-framed_again payload seq =
-    let same : ltb (length payload) (length payload) ≡ false = le-ltb _ _ (omega arith) in
-    ap (λ (len : ℕ). whole_at len payload) (announced-header (length payload)) ∙ rw same refl
+first_told payload more seq = rw (header_again payload more seq, bytes_again payload more) refl
+
+alone_told : (payload : List ℕ) (seq : ℕ) → reply_at (framed payload seq) ≡ told_at seq payload []
+alone_told payload seq = ap reply_at (sym (append-nil (framed payload seq))) ∙ first_told payload [] seq
 
 status_fits : (tx auto : Bool) → status_flags tx auto < 2 ^ 16
 status_fits true true = omega arith
@@ -100,26 +47,73 @@ state_long why = refl
 text_short : (why : Cause) → length (cause_text why) ≤ 512
 text_short why = omega (arith, length-take 512 (flatten (message why)))
 
-pub read_back : (reply : Reply) (caps seq : ℕ) → Fits reply → reply_at (reply_bytes reply caps seq) ≡ Ok (wire_of reply caps)
+-- no text begins with `#`
+no_state : (why : Cause) → state_at (cause_text why) ≡ Ok (None, cause_text why)
+unfolding state_at
+no_state OutOfMemory = refl
+no_state why = refl
+
+-- ---- result sets
+
+told_set : (n seq : ℕ) (more : List ℕ) → 0 < n → n ≤ 1000 → told_at seq (length_encoded n) more ≡ set_at seq (length_encoded n) more
+unfolding told_at
+told_set n seq more some few =
+    elim (cases_lt n 251) [
+      | inl small ↦ (let t : ltb n 251 ≡ true = lt-ltb _ _ small in
+          let ok : nat_eq n 0 ≡ false = ne_eqb _ _ (omega arith) in
+          let err : nat_eq n 255 ≡ false = ne_eqb _ _ (omega arith) in rw (t, ok, err) refl)
+      | inr large ↦ (let f : ltb n 251 ≡ false = le-ltb _ _ large in
+          let t : ltb n (2 ^ 16) ≡ true = lt-ltb _ _ (omega arith) in rw (f, t) refl)
+    ]
+
+count_again : (n : ℕ) → n ≤ 1000 → count_at (length_encoded n) ≡ Ok n
+count_again n few = ap count_at (sym (append-nil (length_encoded n))) ∙ rw (number_again n [] (omega arith)) refl
+
+more_packets : (seq status : ℕ) (rows : List (List Value)) → length rows < length (framed_from seq (map row_payload rows ++ eof_payload status ∷ []))
+more_packets seq status rows =
+    omega (arith, packets_long seq (map row_payload rows ++ eof_payload status ∷ []), length-append (map row_payload rows) (eof_payload status ∷ []), length-map rows row_payload)
+
+set_again : (columns : List ReplyColumn) (rows : List (List Value)) (tx auto : Bool) (caps seq : ℕ) → Fits (replies.Rows columns rows tx auto)
+    → set_at seq (length_encoded (length columns)) (framed_from (next_number seq) (map column_payload columns ++ (eof_payload (status_flags tx auto) ∷ (map row_payload rows ++ (eof_payload (status_flags tx auto) ∷ [])))))
+    ≡ Ok (wire_of (replies.Rows columns rows tx auto) caps)
+unfolding set_at
+set_again columns rows tx auto caps seq fits =
+    let status : ℕ = status_flags tx auto in
+    let last : ℕ = number_after (length columns) (next_number seq) in
+    rw (
+      count_again (length columns) fits.1.0,
+      columns_again (next_number seq) columns (eof_payload status ∷ (map row_payload rows ++ (eof_payload status ∷ []))) fits.1.1 fits.2,
+      eof_packet_again status last (framed_from (next_number last) (map row_payload rows ++ (eof_payload status ∷ []))) (status_fits tx auto),
+      rows_again (length (framed_from (next_number last) (map row_payload rows ++ (eof_payload status ∷ [])))) (length columns) (next_number last) status rows (more_packets (next_number last) status rows) fits.0 fits.1.2 fits.3 (status_fits tx auto),
+    ) refl
+
+-- ---- all replies
+
+pub read_back : (reply : Reply) (caps seq : ℕ) → Fits reply → reply_at (bytes_for reply caps seq) ≡ Ok (wire_of reply caps)
+unfolding told_at
 read_back (replies.Ok affected found warnings tx auto) caps seq fits =
-    framed_again (ok_payload (counted caps affected found) (status_flags tx auto) warnings) seq
-    ∙ ok_again (counted caps affected found) (status_flags tx auto) warnings (counted_fits caps affected found fits.0 fits.1) (status_fits tx auto) fits.2
-read_back (replies.Rows columns rows tx auto) caps seq fits = absurd fits
-read_back (replies.Err code why tx) caps seq fits =
-    framed_again (err_payload code (sql_state why) (cause_text why)) seq
-    ∙ err_again code (sql_state why) (cause_text why) fits (state_long why) (text_short why)
+    alone_told (ok_payload (counted caps affected found) (status_flags tx auto) warnings) seq
+    ∙ rw (ok_again (counted caps affected found) (status_flags tx auto) warnings (counted_fits caps affected found fits.0 fits.1) (status_fits tx auto) fits.2) refl
+read_back (replies.Rows columns rows tx auto) caps seq fits =
+    first_told (length_encoded (length columns)) _ seq ∙ told_set (length columns) seq _ fits.0 fits.1.0 ∙ set_again columns rows tx auto caps seq fits
+read_back (replies.Err code why tx) caps seq fits = split (nat_eq (bit_and caps 512) 0) refl
+  where
+    split : (b : Bool) → nat_eq (bit_and caps 512) 0 ≡ b → reply_at (bytes_for (replies.Err code why tx) caps seq) ≡ Ok (wire_of (replies.Err code why tx) caps)
+    split true e =
+        rw e (alone_told (early_err_payload code (cause_text why)) seq ∙ rw (early_again code (cause_text why) fits (no_state why) (text_short why)) refl)
+    split false e =
+        rw e (alone_told (err_payload code (sql_state why) (cause_text why)) seq ∙ rw (err_again code (sql_state why) (cause_text why) fits (state_long why) (text_short why)) refl)
 
--- an answer of the code and what is read
-abbrev good : (E : Type 0) → Wire → Result Wire E
-good E wire = Ok wire
+-- ---- what is read is one
 
-pub same_ok : (E F : Type 0) (a b : Wire) → good E a ≡ good E b → good F a ≡ good F b
-same_ok E F a b e =
-    let same : a ≡ b = cc in
-    ap (good F) same
+abbrev good : Wire → Result Wire ℕ
+good wire = Ok wire
+
+pub same_wire : (a b : Wire) → good a ≡ good b → a ≡ b
+same_wire a b e = cc
 
 abbrev bad : ℕ → Result Wire ℕ
 bad left = Err left
 
-pub not_read : (left : ℕ) (wire : Wire) → bad left ≡ good ℕ wire → ⊥
+pub not_read : (left : ℕ) (wire : Wire) → bad left ≡ good wire → ⊥
 not_read left wire e = cc

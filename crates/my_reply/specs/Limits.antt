@@ -1,5 +1,5 @@
 -- The limits of a reply that may be encoded, as tests.
-use Rattle.std.specs.Prelude.{ℕ, Bool, true, ◌&&◌, nat_le, List, length}
+use Rattle.std.specs.Prelude.{Bool, true, ◌&&◌, nat_le, List, length}
 use Rattle.std.specs.List.{list_all}
 use Rattle.vl_values.specs.declared.reply.Reply.{Reply}
 use Rattle.vl_values.specs.declared.reply.Reply.TheVariants.{Ok, Rows, Err}

@@ -1,15 +1,9 @@
--- What bytes say as a reply: a value and the bytes behind it, or how many bytes are left at the first fault.
-use Rattle.std.specs.Prelude.{◌≡◌, ℕ, ◌-◌, ◌^◌, ◌<◌, ◌==◌, nat_lt, if◌then◌else◌, List, [], ◌∷◌, ◌++◌, length, take, drop, Option, Some, None, Result, Ok, Err}
+-- What bytes say as an OK or an ERR: a value and the bytes behind it, or how many bytes are left at the first fault.
+use Rattle.std.specs.Prelude.{◌≡◌, ℕ, ◌-◌, ◌==◌, nat_lt, if◌then◌else◌, List, [], ◌∷◌, ◌++◌, length, take, drop, Option, Some, None, Result, Ok, Err}
 use Rattle.std.specs.Int.{from_le_bytes, w16, w32, w64}
-use Rattle.my_packet.specs.Bytes.{announced}
-use Rattle.my_reply.specs.Fields.{counted, status_flags}
 use Rattle.my_reply.specs.declared.wire.Wire.{Wire}
 use Rattle.my_reply.specs.declared.wire.Wire.TheVariants as wires
-use Rattle.my_reply.specs.declared.wire.BadReply.{BadReply}
 use Rattle.my_reply.specs.declared.wire.Fault.{Fault}
-use Rattle.vl_values.specs.Cause.{sql_state, cause_text}
-use Rattle.vl_values.specs.declared.reply.Reply.{Reply}
-use Rattle.vl_values.specs.declared.reply.Reply.TheVariants as replies
 
 abbrev pub Read : Type 0 → Type 0
 Read A = Result (A × List ℕ) ℕ
@@ -44,10 +38,14 @@ number_at (first ∷ rest) =
     if first == 254 then eight_at rest else
     Err (length (first ∷ rest))
 
--- the end of a payload
-abbrev pub ends_with : Wire → List ℕ → Result Wire ℕ
-ends_with wire [] = Ok wire
-ends_with wire (more ∷ rest) = Err (length (more ∷ rest))
+-- the end of a payload, or of all bytes
+abbrev pub ends_with : {A : Type 0} → A → List ℕ → Result A ℕ
+ends_with x [] = Ok x
+ends_with x (more ∷ rest) = Err (length (more ∷ rest))
+
+-- as many bytes as this
+abbrev pub bytes_at : ℕ → List ℕ → Read (List ℕ)
+bytes_at n bytes = if nat_lt (length bytes) n then Err 0 else Ok (take n bytes, drop n bytes)
 
 -- an OK behind its mark
 unfoldable pub ok_at : List ℕ → Result Wire ℕ
@@ -71,40 +69,3 @@ err_at bytes = do
   code ← two_at bytes
   state ← state_at code.1
   if nat_lt 512 (length state.1) then Err (length state.1 - 512) else Ok (wires.Err code.0 state.0 state.1)
-
--- a payload: OK begins with 0, and ERR with 255
-unfoldable pub payload_at : List ℕ → Result Wire ℕ
-payload_at [] = Err 0
-payload_at (first ∷ rest) =
-    if first == 0 then ok_at rest else
-    if first == 255 then err_at rest else
-    Err (length (first ∷ rest))
-
--- a payload of the length that a header announced
-abbrev pub whole_at : ℕ → List ℕ → Result Wire ℕ
-whole_at len payload =
-    if nat_lt (length payload) len then Err 0 else
-    if nat_lt len (length payload) then Err (length payload - len) else
-    payload_at payload
-
--- one packet, whatever its number is
-unfoldable pub reply_at : List ℕ → Result Wire ℕ
-reply_at (low ∷ middle ∷ high ∷ number ∷ payload) = whole_at (announced low middle high) payload
-reply_at _ = Err 0
-
--- what is read of bytes, or the place of the first fault, counted from 0
-abbrev pub Decodes : List ℕ → Result Wire BadReply → Type 0
-Decodes bytes (Ok wire) = reply_at bytes ≡ Ok wire
-Decodes bytes (Err bad) = (left : ℕ) × (reply_at bytes ≡ Err left) × (bad.at ≡ length bytes - left)
-
--- what is read of a reply of one packet
-abbrev pub wire_of : Reply → ℕ → Wire
-wire_of (replies.Ok affected found warnings tx auto) caps = wires.Ok (counted caps affected found) 0 (status_flags tx auto) warnings
-wire_of (replies.Rows columns rows tx auto) caps = wires.Ok 0 0 (status_flags tx auto) 0
-wire_of (replies.Err code why tx) caps = wires.Err code (Some (sql_state why)) (cause_text why)
-
--- a reply of one packet, whose numbers have 64 and 16 bits
-abbrev pub Fits : Reply → Type 0
-Fits (replies.Ok affected found warnings tx auto) = (affected < 2 ^ 64) × (found < 2 ^ 64) × (warnings < 2 ^ 16)
-Fits (replies.Rows columns rows tx auto) = ⊥
-Fits (replies.Err code why tx) = code < 2 ^ 16

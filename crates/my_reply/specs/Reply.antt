@@ -1,10 +1,9 @@
 -- The bytes of a reply: one packet, or those of a result set.
-use Rattle.std.specs.Prelude.{ℕ, ◌≤◌, ◌==◌, bit_and, Bool, if◌then◌else◌, List, ◌∷◌, ◌++◌, length, All}
+use Rattle.std.specs.Prelude.{ℕ, ◌≤◌, ◌==◌, bit_and, if◌then◌else◌, List, ◌∷◌, ◌++◌, length, All}
 use Rattle.my_reply.specs.Fields.{two_bytes, length_encoded, status_flags, counted}
 pub use Rattle.my_reply.specs.ResultSet.{framed}
 use Rattle.my_reply.specs.ResultSet.{framed_from, result_set_payloads}
 use Rattle.vl_values.specs.Cause.{sql_state, cause_text}
-use Rattle.vl_values.specs.declared.cause.Cause.{Cause}
 use Rattle.vl_values.specs.declared.reply.Reply.{Reply}
 use Rattle.vl_values.specs.declared.reply.Reply.TheVariants.{Ok, Rows, Err}
 use Rattle.vl_values.specs.declared.reply_column.ReplyColumn.{ReplyColumn}

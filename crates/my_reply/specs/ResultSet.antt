@@ -1,11 +1,11 @@
 -- The packets of a result set: the column count, a definition per column, EOF, the rows, EOF.
-use Rattle.std.specs.Prelude.{ℕ, ◌+◌, ◌%◌, ◌==◌, Bool, if◌then◌else◌, List, [], ◌∷◌, ◌++◌, length, map, codes}
+use Rattle.std.specs.Prelude.{ℕ, ◌+◌, ◌%◌, ◌==◌, if◌then◌else◌, List, [], ◌∷◌, ◌++◌, length, map, codes}
 use Rattle.std.specs.Int.{to_le_bytes, w32}
 use Rattle.std.specs.List.{flat_map}
 use Rattle.my_packet.specs.Bytes.{header}
-use Rattle.my_reply.specs.Fields.{two_bytes, length_encoded, text_bytes, status_flags}
+use Rattle.my_reply.specs.Fields.{two_bytes, length_encoded, text_bytes}
 use Rattle.vl_values.specs.declared.col_type.ColType.{ColType}
-use Rattle.vl_values.specs.declared.col_type.ColType.TheVariants.{BigInt, BigUint, Int as IntType, Uint32, VarChar, VarBinary}
+use Rattle.vl_values.specs.declared.col_type.ColType.TheVariants.{VarChar, VarBinary}
 use Rattle.vl_values.specs.declared.reply_column.ReplyColumn.{ReplyColumn}
 use Rattle.vl_values.specs.declared.value.Value.{Value}
 use Rattle.vl_values.specs.declared.value.Value.TheVariants.{Null, Int, Uint, Bytes}

@@ -122,6 +122,51 @@ fn a_result_set_may_have_no_row(rt: HostRuntime) -> Result<(), Fail> {
     assert_encoded(&rt, &reply, PROTOCOL_41, 1, NONE)
 }
 
+/// How many columns and rows are read of a result set, and its status.
+fn counts_of(alloc: Global, bytes: &[u8]) -> Result<[usize; 3], BadReply> {
+    match decode(alloc, bytes)? {
+        Wire::Rows {
+            columns,
+            rows,
+            status,
+            warnings: _,
+        } => Ok([columns.len(), rows.len(), usize::from(status)]),
+        _ => Ok([0, 0, 0]),
+    }
+}
+
+#[test]
+fn result_sets_are_read(rt: HostRuntime) {
+    assert_eq!(rt; counts_of(rt.alloc(), SELECTED), Ok([1, 1, 2]));
+    assert_eq!(rt; counts_of(rt.alloc(), SHOWN), Ok([2, 2, 1]));
+    assert_eq!(rt; counts_of(rt.alloc(), NONE), Ok([1, 0, 2]));
+}
+
+#[test]
+fn a_front_of_a_result_set_ends_too_early(rt: HostRuntime) {
+    for at in 0..SELECTED.len() {
+        let read = counts_of(rt.alloc(), &SELECTED[..at]);
+        assert_eq!(rt; read, Err(BadReply::Wrong { at }));
+    }
+}
+
+/// Places of `SELECTED` where any other byte is a fault: numbers of packets, the length of the fixed
+/// fields, and the bytes behind the decimals.
+static FIXED: [usize; 6] = [8, 32, 43, 44, 48, 57];
+
+#[test]
+fn a_changed_byte_of_a_result_set_is_named(rt: HostRuntime) -> Result<(), Fail> {
+    for at in &FIXED {
+        let mut bytes = Vec::from_slice(rt.alloc(), SELECTED)?;
+        if let Some(byte) = bytes.get_mut(*at) {
+            *byte = 0x77;
+        }
+        let read = counts_of(rt.alloc(), bytes.as_slice());
+        assert_eq!(rt; read, Err(BadReply::Wrong { at: *at }));
+    }
+    Ok(())
+}
+
 /// The bytes of an ERR and of an OK, by the capabilities.
 static REFUSED: [(u32, &[u8]); 2] = [
     (0, b"\x1a\x00\x00\x00\xff\x10\x04Too many sessions: 1000"),

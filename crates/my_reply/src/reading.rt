@@ -1,15 +1,13 @@
-ghost use Rattle.std.specs.Prelude.{◌≡◌, ◌≤◌, ℕ, length, Ok};
-ghost use Rattle.my_reply.specs.Reading.{Gives, Decodes, Fits, two_at, three_at, eight_at, number_at, ends_with, ok_at, state_at, err_at, payload_at, whole_at, reply_at, wire_of};
-ghost use Rattle.my_reply.specs.Reply.{reply_bytes};
-ghost use Rattle.vl_values.specs.declared.reply.Reply.{Reply as AReply};
+ghost use Rattle.std.specs.Prelude.{◌≡◌, ◌≤◌, length};
+ghost use Rattle.my_reply.specs.Reading.{Gives, two_at, three_at, eight_at, number_at, bytes_at, ends_with, ok_at, state_at, err_at};
 
-use crate::wire::{BadReply, Fault, Wire};
+use crate::wire::{Fault, Wire};
 use vl_values::error_text::ErrorText;
 
 /// The most bytes of an error text.
 const LONGEST_TEXT: usize = 512;
 
-fn two_of(bytes: &[u8]) -> Result<(u16, &[u8]), Fault>
+pub(crate) fn two_of(bytes: &[u8]) -> Result<(u16, &[u8]), Fault>
     ensures { Gives (λ x. (x.0, x.1.now)) result (two_at bytes.now) }
 {
     if bytes.len() < 2 {
@@ -45,7 +43,7 @@ fn eight_of(bytes: &[u8]) -> Result<(u64, &[u8]), Fault>
 }
 
 #[tactic(auto, unfolding(crate::specs::Reading::number_at))]
-fn number_of(bytes: &[u8]) -> Result<(u64, &[u8]), Fault>
+pub(crate) fn number_of(bytes: &[u8]) -> Result<(u64, &[u8]), Fault>
     ensures { Gives (λ x. (x.0, x.1.now)) result (number_at bytes.now) }
 {
     match bytes {
@@ -61,18 +59,28 @@ fn number_of(bytes: &[u8]) -> Result<(u64, &[u8]), Fault>
     }
 }
 
-fn ended(wire: Wire, rest: &[u8]) -> Result<Wire, Fault>
-    ensures { Gives (λ x. x) result (ends_with wire rest.now) }
+pub(crate) fn ended<T: Drop>(value: T, rest: &[u8]) -> Result<T, Fault>
+    ensures { Gives (λ x. x) result (ends_with value rest.now) }
 {
     if rest.is_empty() {
-        Ok(wire)
+        Ok(value)
     } else {
         Err(Fault { left: rest.len() })
     }
 }
 
+/// As many bytes as this, and those behind them.
+pub(crate) fn bytes_of(n: u64, bytes: &[u8]) -> Result<(&[u8], &[u8]), Fault>
+    ensures { Gives (λ x. (x.0.now, x.1.now)) result (bytes_at n bytes.now) }
+{
+    if (bytes.len() as u64) < n {
+        return Err(Fault { left: 0 });
+    }
+    Ok(bytes.split_at(n as usize))
+}
+
 #[tactic(auto, unfolding(crate::specs::Reading::ok_at))]
-fn ok_of(bytes: &[u8]) -> Result<Wire, Fault>
+pub(crate) fn ok_of(bytes: &[u8]) -> Result<Wire, Fault>
     ensures { Gives (λ x. x) result (ok_at bytes.now) }
 {
     let (affected, rest) = number_of(bytes)?;
@@ -117,7 +125,7 @@ fn text_of(bytes: &[u8]) -> ErrorText
 }
 
 #[tactic(auto, unfolding(crate::specs::Reading::err_at))]
-fn err_of(bytes: &[u8]) -> Result<Wire, Fault>
+pub(crate) fn err_of(bytes: &[u8]) -> Result<Wire, Fault>
     ensures { Gives (λ x. x) result (err_at bytes.now) }
 {
     let (code, rest) = two_of(bytes)?;
@@ -129,57 +137,4 @@ fn err_of(bytes: &[u8]) -> Result<Wire, Fault>
     }
     let text = text_of(rest);
     Ok(Wire::Err { code, state, text })
-}
-
-#[tactic(auto, unfolding(crate::specs::Reading::payload_at))]
-fn payload_of(bytes: &[u8]) -> Result<Wire, Fault>
-    ensures { Gives (λ x. x) result (payload_at bytes.now) }
-{
-    match bytes {
-        [] => Err(Fault { left: 0 }),
-        [0x00, rest @ ..] => ok_of(rest),
-        [0xff, rest @ ..] => err_of(rest),
-        [_, ..] => Err(Fault { left: bytes.len() }),
-    }
-}
-
-fn whole_of(len: usize, payload: &[u8]) -> Result<Wire, Fault>
-    ensures { Gives (λ x. x) result (whole_at len payload.now) }
-{
-    if payload.len() < len {
-        return Err(Fault { left: 0 });
-    }
-    if payload.len() > len {
-        return Err(Fault {
-            left: payload.len() - len,
-        });
-    }
-    payload_of(payload)
-}
-
-#[tactic(auto, unfolding(crate::specs::Reading::reply_at))]
-fn reply_of(bytes: &[u8]) -> Result<Wire, Fault>
-    ensures { Gives (λ x. x) result (reply_at bytes.now) }
-{
-    match bytes {
-        [low, middle, high, _, payload @ ..] => {
-            let len = u32::from_le_bytes([*low, *middle, *high, 0]);
-            whole_of(len as usize, payload)
-        }
-        _ => Err(Fault { left: 0 }),
-    }
-}
-
-/// What a client reads of an OK or ERR packet, whatever its number is. It takes no memory.
-pub fn decode(bytes: &[u8]) -> Result<Wire, BadReply>
-    ensures exact { Decodes bytes.now result }
-    // What was written of a reply is read.
-    ensures reads { (reply : AReply) (caps seq : ℕ) → Fits reply → bytes.now ≡ reply_bytes reply caps seq → result ≡ Ok (wire_of reply caps) }
-{
-    match reply_of(bytes) {
-        Ok(wire) => Ok(wire),
-        Err(fault) => Err(BadReply {
-            at: bytes.len().saturating_sub(fault.left),
-        }),
-    }
 }

@@ -1,4 +1,4 @@
-use Rattle.std.proofs.Common.{[], ◌∷◌, refl, sym, rules}
+use Rattle.std.proofs.Common.{[], ◌∷◌, refl, rules}
 use Rattle.my_reply.specs.ResultSet.{column_payload}
 use Rattle.my_reply.proofs.Packets.{opened}
 use Rattle.my_reply.proofs.result_set.push_column.Goals as goal

@@ -1,4 +1,4 @@
-use Rattle.std.proofs.Common.{[], ◌∷◌, refl, sym, rules}
+use Rattle.std.proofs.Common.{[], ◌∷◌, refl, rules}
 use Rattle.my_reply.specs.ResultSet.{row_payload}
 use Rattle.my_reply.proofs.Packets.{opened, row_fits}
 use Rattle.my_reply.proofs.result_set.push_row.Goals as goal
