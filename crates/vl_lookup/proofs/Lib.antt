@@ -1,0 +1,7 @@
+pub mod Answered
+pub mod Asides
+pub mod Homes
+pub mod Made
+pub mod Matching
+pub mod Rows
+pub mod Stepped

@@ -1,0 +1,1 @@
+use Rattle.vl_lookup.proofs.claim.Claim.inserted.Goals as goal
