@@ -3,7 +3,7 @@ use Rattle.std.proofs.Common.{◌≡◌, ◌∙◌, ℕ, ◌^◌, ◌<◌, ◌�
 use Rattle.std.specs.Prelude.{bit_and}
 use Rattle.std.proofs.lemmas.Bool.{cases_lt, lt-ltb, le-ltb, ne_eqb}
 use Rattle.std.proofs.lemmas.List.{append-nil, length-append, length-take, length-map}
-use Rattle.my_reply.specs.Decoding.{count_at, set_at, told_at, reply_at, wire_of, Fits}
+use Rattle.my_reply.specs.Decoding.{begins_set, count_at, may_be_set, set_at, told_at, reply_at, wire_of, Fits, IsSet}
 use Rattle.my_reply.specs.Fields.{length_encoded, status_flags, counted}
 use Rattle.my_reply.specs.Reading.{state_at}
 use Rattle.my_reply.specs.Reply.{ok_payload, err_payload, early_err_payload, bytes_for}
@@ -29,6 +29,12 @@ first_told payload more seq = rw (header_again payload more seq, bytes_again pay
 
 alone_told : (payload : List ℕ) (seq : ℕ) → reply_at (framed payload seq) ≡ told_at seq payload []
 alone_told payload seq = ap reply_at (sym (append-nil (framed payload seq))) ∙ first_told payload [] seq
+
+first_set : (payload more : List ℕ) (seq : ℕ) → may_be_set (framed payload seq ++ more) ≡ begins_set payload
+first_set payload more seq = rw (header_again payload more seq, bytes_again payload more) refl
+
+alone_set : (payload : List ℕ) (seq : ℕ) → may_be_set (framed payload seq) ≡ begins_set payload
+alone_set payload seq = ap may_be_set (sym (append-nil (framed payload seq))) ∙ first_set payload [] seq
 
 status_fits : (tx auto : Bool) → status_flags tx auto < 2 ^ 16
 status_fits true true = omega arith
@@ -117,3 +123,19 @@ bad left = Err left
 
 pub not_read : (left : ℕ) (wire : Wire) → bad left ≡ good wire → ⊥
 not_read left wire e = cc
+
+-- ---- memory is taken for a result set alone
+
+both : (b : Bool) → b ≡ true → b ≡ false → ⊥
+both b yes_ no_ = cc
+
+pub memory_read : (reply : Reply) (caps seq : ℕ) → may_be_set (bytes_for reply caps seq) ≡ true → IsSet (wire_of reply caps)
+memory_read (replies.Ok affected found warnings tx auto) caps seq set =
+    both (may_be_set (bytes_for (replies.Ok affected found warnings tx auto) caps seq)) set (alone_set (ok_payload (counted caps affected found) (status_flags tx auto) warnings) seq)
+memory_read (replies.Rows columns rows tx auto) caps seq set = tt
+memory_read (replies.Err code why tx) caps seq set =
+    both (may_be_set (bytes_for (replies.Err code why tx) caps seq)) set (split (nat_eq (bit_and caps 512) 0) refl)
+  where
+    split : (b : Bool) → nat_eq (bit_and caps 512) 0 ≡ b → may_be_set (bytes_for (replies.Err code why tx) caps seq) ≡ false
+    split true e = rw e (alone_set (early_err_payload code (cause_text why)) seq)
+    split false e = rw e (alone_set (err_payload code (sql_state why) (cause_text why)) seq)

@@ -1,7 +1,7 @@
 -- What bytes say as a reply, and what is read of one that was written.
-use Rattle.std.specs.Prelude.{◌≡◌, ℕ, ◌-◌, ◌^◌, ◌<◌, ◌==◌, bit_and, if◌then◌else◌, List, [], ◌∷◌, length, map, All, codes, Option, Some, None, Result, Ok, Err}
+use Rattle.std.specs.Prelude.{◌≡◌, ℕ, ◌-◌, ◌^◌, ◌<◌, ◌==◌, bit_and, if◌then◌else◌, Bool, true, false, not, ◌&&◌, List, [], ◌∷◌, length, map, All, codes, Option, Some, None, Result, Ok, Err}
 use Rattle.my_reply.specs.Fields.{counted, status_flags}
-use Rattle.my_reply.specs.Reading.{◌>>=◌, number_at, ends_with, bytes_at, ok_at, err_at}
+use Rattle.my_reply.specs.Reading.{Read, ◌>>=◌, number_at, ends_with, bytes_at, ok_at, err_at}
 use Rattle.my_reply.specs.Reply.{IsEncodable}
 use Rattle.my_reply.specs.ResultSet.{charset, greatest_length, type_code, name_in_table, next_number}
 use Rattle.my_reply.specs.ResultSetReading.{inside, header_at, columns_at, eof_packet_at, rows_at}
@@ -59,16 +59,34 @@ reply_at bytes = do
   payload ← bytes_at header.0.0 header.1
   told_at header.0.1 payload.0 payload.1
 
+-- whether a payload begins neither as an OK nor as an ERR
+abbrev pub begins_set : List ℕ → Bool
+begins_set [] = false
+begins_set (first ∷ more) = not (first == 0) && not (first == 255)
+
+abbrev pub begins_in : Read (List ℕ) → Bool
+begins_in (Ok payload) = begins_set payload.0
+begins_in (Err left) = false
+
+-- whether the bytes begin as a result set, the one reply for which memory is taken
+abbrev pub may_be_set : List ℕ → Bool
+may_be_set bytes = begins_in (header_at bytes >>= (λ header. bytes_at header.0.0 header.1))
+
 -- what is read of bytes, or the place of the first fault, counted from 0
 abbrev pub Decodes : List ℕ → Result Wire BadReply → Type 0
 Decodes bytes (Ok wire) = reply_at bytes ≡ Ok wire
-Decodes bytes (Err bad.Memory) = Unit {0}
+Decodes bytes (Err bad.Memory) = may_be_set bytes ≡ true
 Decodes bytes (Err (bad.Wrong at)) = (left : ℕ) × (reply_at bytes ≡ Err left) × (at ≡ length bytes - left)
 
--- this was read, unless memory ran out
+abbrev pub IsSet : Wire → Type 0
+IsSet (wires.Ok affected insert_id status warnings) = ⊥
+IsSet (wires.Rows columns rows status warnings) = Unit {0}
+IsSet (wires.Err code state text) = ⊥
+
+-- this was read, unless memory ran out for a result set
 abbrev pub IsRead : Result Wire BadReply → Wire → Type 0
 IsRead (Ok read) wire = read ≡ wire
-IsRead (Err bad.Memory) wire = Unit {0}
+IsRead (Err bad.Memory) wire = IsSet wire
 IsRead (Err (bad.Wrong at)) wire = ⊥
 
 -- ---- what is read of a reply

@@ -1,5 +1,5 @@
-ghost use Rattle.std.specs.Prelude.{◌≡◌, ℕ, IfOk, Result, length};
-ghost use Rattle.my_reply.specs.Decoding.{Decodes, Fits, IsRead, alone_at, count_at, reply_at, rows_behind_at, set_at, told_at, wire_of};
+ghost use Rattle.std.specs.Prelude.{◌≡◌, ℕ, IfOk, OnErr, Result, length, true};
+ghost use Rattle.my_reply.specs.Decoding.{Decodes, Fits, IsRead, alone_at, begins_set, count_at, may_be_set, reply_at, rows_behind_at, set_at, told_at, wire_of};
 ghost use Rattle.my_reply.specs.GivesInPackets.{GivesIn};
 ghost use Rattle.my_reply.specs.Reading.{Gives, ends_with};
 ghost use Rattle.my_reply.specs.Reply.{bytes_for};
@@ -98,7 +98,8 @@ fn told_of(
     payload: &[u8],
     rest: &[u8],
 ) -> Result<Result<Wire, PacketFault>, AllocError>
-    ensures { IfOk result (λ r. GivesIn (λ x. x) r (told_at number payload.now rest.now)) }
+    ensures told { IfOk result (λ r. GivesIn (λ x. x) r (told_at number payload.now rest.now)) }
+    ensures memory { OnErr result (begins_set payload.now ≡ true) }
 {
     match payload {
         [] => Ok(Err(in_payload(Fault { left: 0 }, rest))),
@@ -110,7 +111,8 @@ fn told_of(
 
 #[tactic(auto, unfolding(crate::specs::Decoding::reply_at))]
 fn reply_of(alloc: Global, bytes: &[u8]) -> Result<Result<Wire, PacketFault>, AllocError>
-    ensures { IfOk result (λ r. GivesIn (λ x. x) r (reply_at bytes.now)) }
+    ensures told { IfOk result (λ r. GivesIn (λ x. x) r (reply_at bytes.now)) }
+    ensures memory { OnErr result (may_be_set bytes.now ≡ true) }
 {
     match heading_of(bytes) {
         Err(fault) => Ok(Err(in_packets(fault))),

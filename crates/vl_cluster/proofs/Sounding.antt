@@ -166,7 +166,7 @@ pub kept_sound : (shards : List Lists) → IsKept shards → Sound catalog_a (ta
 unfolding HasNeeded HasOneKey
 kept_sound shards kept = record {
   placed = λ s pair h. placed_one shards s pair kept (which shards s pair h);
-  covered = λ lookup s row among h. covered_one shards s row lookup kept among (which shards s row h);
+  covered = λ lookup s row among h plain. covered_one shards s row lookup kept among (which shards s row h);
   unique = λ lookup n s t row other among unique in_column h k. unique_one shards s t n row other lookup kept among in_column (which shards s row h) (which shards t other k);
 }
 

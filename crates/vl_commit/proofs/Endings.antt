@@ -35,7 +35,7 @@ next_once old new next = omega (arith, next)
 uses_ends : (loss : Option LostWhy) (old new : View) (who : Who) (told : Committed) → CommitUses loss old who told new → Ends who old new
 uses_ends None old new who outcomes.Done h = record { sessions = λ w. ap (λ (v : View). v.sessions w) h; once = same_once old new (ap (λ (v : View). v.incarnation) h) }
 uses_ends None old new who (outcomes.Lost why) h = absurd h
-uses_ends None old new who outcomes.Device h = record { sessions = λ w. ap (λ (v : View). v.sessions w) h; once = next_once old new (ap (λ (v : View). v.incarnation) h) }
+uses_ends None old new who outcomes.Device h = record { sessions = λ w. ap (λ (v : View). v.sessions w) h.1; once = next_once old new (ap (λ (v : View). v.incarnation) h.1) }
 uses_ends (Some loss) old new who told h = record { sessions = λ w. ap (λ (v : View). v.sessions w) h.1; once = same_once old new (ap (λ (v : View). v.incarnation) h.1) }
 
 carries_ends : (way : Carried) (old new : View) (who : Who) (told : Committed) → CommitCarries way old who told new → Ends who old new

@@ -17,8 +17,10 @@ use Rattle.vl_port.specs.Calls.{PortView}
 use Rattle.vl_port.specs.Placing.{IsActOn}
 use Rattle.vl_port.specs.Transaction.{session_of}
 use Rattle.vl_exec.specs.declared.action.Action.{Action}
-use Rattle.vl_exec.specs.declared.program_told.ProgramTold.{ProgramTold}
-use Rattle.vl_exec.specs.Answering.{Answered, TellsNext, WaitsOn, is_full, limit_of_changes, refused}
+use Rattle.vl_statement.specs.declared.program_told.ProgramTold.{ProgramTold}
+use Rattle.vl_port.specs.Limiting.{is_full}
+use Rattle.vl_statement.specs.Refusing.{limit_of_changes}
+use Rattle.vl_exec.specs.Answering.{Answered, TellsNext, WaitsOn, refused}
 use Rattle.vl_exec.specs.Making.{IsMade}
 use Rattle.vl_exec.specs.Progress.{Progress, due, with_rows, with_write}
 use Rattle.vl_exec.specs.Stepping.{Did, Full, NoRoom, Stepped}

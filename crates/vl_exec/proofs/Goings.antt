@@ -10,9 +10,10 @@ use Rattle.vl_port.specs.declared.answer.Answer.TheVariants.{Done, Unchanged, Ro
 use Rattle.vl_port.specs.declared.tx_state.TxState.{TxState}
 use Rattle.vl_port.specs.View.{Values}
 use Rattle.vl_exec.specs.declared.action.Action.{Action}
-use Rattle.vl_exec.specs.declared.program_told.ProgramTold.{ProgramTold}
+use Rattle.vl_statement.specs.declared.program_told.ProgramTold.{ProgramTold}
 use Rattle.vl_exec.specs.declared.search.Search.{Search}
-use Rattle.vl_exec.specs.Answering.{Answered, IsWell, OrNoMemory, WaitsOn, refused}
+use Rattle.vl_statement.specs.Effects.{IsWell}
+use Rattle.vl_exec.specs.Answering.{Answered, OrNoMemory, WaitsOn, refused}
 use Rattle.vl_exec.specs.Progress.{IsNearer, Progress, acts_done, has_read, with_rows, with_try, with_write}
 use Rattle.vl_exec.proofs.Reached.{IsOfAct}
 

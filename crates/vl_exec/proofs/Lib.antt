@@ -2,7 +2,6 @@ pub mod Asking
 pub mod Beginning
 pub mod Dues
 pub mod Finding
-pub mod Gathering
 pub mod Goings
 pub mod Keeping
 pub mod Owing

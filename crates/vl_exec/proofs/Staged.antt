@@ -34,8 +34,8 @@ use Rattle.vl_port.proofs.Naming.{is_who-same, is_who-true, no_both}
 use Rattle.vl_port.proofs.Lives.{marked_there}
 use Rattle.vl_port.proofs.Strangers.{apart_by_tx, in_stranger, stranger_closed, stranger_commit}
 use Rattle.vl_shard.specs.Calls.{Drops}
-use Rattle.vl_exec.specs.declared.program_told.ProgramTold.{ProgramTold}
-use Rattle.vl_exec.specs.Answering.{IsWell}
+use Rattle.vl_statement.specs.declared.program_told.ProgramTold.{ProgramTold}
+use Rattle.vl_statement.specs.Effects.{IsWell}
 use Rattle.vl_exec.specs.Making.{IsMade}
 use Rattle.vl_exec.specs.Progress.{Progress}
 use Rattle.vl_exec.specs.Staging.{AreClients, Client, IsClient, IsNumbered}
@@ -87,7 +87,7 @@ closed_ends old new who h = ap (λ (v : View). v.sessions who) h ∙ ap (λ (b :
 commits_end : (old new : View) (who : Who) (told : Committed) → Commits old who told new → new.sessions who ≡ None
 commits_end old new who outcome.Done h = closed_ends _ new who h
 commits_end old new who (outcome.Lost why) h = absurd h
-commits_end old new who outcome.Device h = closed_ends (downed_in who old) new who h
+commits_end old new who outcome.Device h = closed_ends (downed_in who old) new who h.1
 
 uses_end : (loss : Option LostWhy) (old new : View) (who : Who) (told : Committed) → CommitUses loss old who told new → new.sessions who ≡ None
 uses_end None old new who told h = commits_end old new who told h

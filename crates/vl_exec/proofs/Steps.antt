@@ -24,10 +24,12 @@ use Rattle.vl_port.specs.Transaction.{session_of}
 use Rattle.vl_port.specs.View.{View}
 use Rattle.vl_port.proofs.Leaving.{same_or_other}
 use Rattle.vl_exec.specs.declared.action.Action.{Action}
-use Rattle.vl_exec.specs.declared.program_told.ProgramTold.{ProgramTold}
-use Rattle.vl_exec.specs.declared.program_told.ProgramTold.TheVariants as told
-use Rattle.vl_exec.specs.Answering.{Answered, IsWell, TellsNext, WaitsOn, device_failed, limit_of_changes, refused, refused_whole, session_lost}
-use Rattle.vl_exec.specs.Effects.{AreOwed, AreOwedBy, HasLocksOf, HasPendingOf, HasWritten, IsOwed, LeavesOpen}
+use Rattle.vl_statement.specs.declared.program_told.ProgramTold.{ProgramTold}
+use Rattle.vl_statement.specs.declared.program_told.ProgramTold.TheVariants as told
+use Rattle.vl_statement.specs.Refusing.{device_failed, limit_of_changes, refused_whole, session_lost}
+use Rattle.vl_statement.specs.Effects.{HasLocksOf, HasPendingOf, IsWell, LeavesOpen}
+use Rattle.vl_exec.specs.Answering.{Answered, TellsNext, WaitsOn, refused}
+use Rattle.vl_exec.specs.Effects.{AreOwed, AreOwedBy, HasWritten, IsOwed}
 use Rattle.vl_exec.specs.declared.search.Search.{Search}
 use Rattle.vl_exec.specs.Making.{IsMade}
 use Rattle.vl_exec.specs.Progress.{IsNearer, Progress, acts_done, due, with_write}
@@ -188,8 +190,8 @@ answer_keeps catalog tx old new port after who action (Rows rows) tells s key ac
 answer_keeps catalog tx old new port after who action (Found k row) tells s key acts answered open_ = done_keeps port after who action.shard action.act (Found k row) s key tt (λ e. absurd (cc (e))) acts
 answer_keeps catalog tx old new port after who action (Held by k) tells s key acts answered open_ = done_keeps port after who action.shard action.act (Held by k) s key tt (λ e. absurd (cc (e))) acts
 answer_keeps catalog tx old new port after who action (Limit what count) tells s key acts answered open_ = done_keeps port after who action.shard action.act (Limit what count) s key tt (λ e. absurd (cc (e))) acts
-answer_keeps catalog tx old new port after who action (Lost why) tells s key acts answered open_ = whole_ends tells (session_lost catalog action why) new answered open_
-answer_keeps catalog tx old new port after who action Device tells s key acts answered open_ = whole_ends tells (device_failed catalog action) new answered open_
+answer_keeps catalog tx old new port after who action (Lost why) tells s key acts answered open_ = whole_ends tells (session_lost catalog action.group action.shard why) new answered open_
+answer_keeps catalog tx old new port after who action Device tells s key acts answered open_ = whole_ends tells (device_failed catalog action.shard) new answered open_
 answer_keeps catalog tx old new port after who action Memory tells s key acts answered open_ =
     others_keep port after who action.shard action.act Memory s key acts
     (memory_pends (port.shards action.shard) (after.shards action.shard) key (memory_leaves after.way (port.shards action.shard) (after.shards action.shard) who action.act acts.acted))
@@ -230,8 +232,8 @@ answer_holds catalog tx old new port after who other action (Rows rows) tells ke
 answer_holds catalog tx old new port after who other action (Found k row) tells key acts answered on held = done_holds port after who other action.shard action.act (Found k row) key tt acts held
 answer_holds catalog tx old new port after who other action (Held by k) tells key acts answered on held = done_holds port after who other action.shard action.act (Held by k) key tt acts held
 answer_holds catalog tx old new port after who other action (Limit what count) tells key acts answered on held = done_holds port after who other action.shard action.act (Limit what count) key tt acts held
-answer_holds catalog tx old new port after who other action (Lost why) tells key acts answered on held = whole_is_off tells (session_lost catalog action why) answered on
-answer_holds catalog tx old new port after who other action Device tells key acts answered on held = whole_is_off tells (device_failed catalog action) answered on
+answer_holds catalog tx old new port after who other action (Lost why) tells key acts answered on held = whole_is_off tells (session_lost catalog action.group action.shard why) answered on
+answer_holds catalog tx old new port after who other action Device tells key acts answered on held = whole_is_off tells (device_failed catalog action.shard) answered on
 answer_holds catalog tx old new port after who other action Memory tells key acts answered on held =
     memory_holds (port.shards action.shard) (after.shards action.shard) other key (memory_leaves after.way (port.shards action.shard) (after.shards action.shard) who action.act acts.acted) held
 

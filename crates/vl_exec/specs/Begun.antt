@@ -19,7 +19,7 @@ use Rattle.vl_exec.specs.declared.row_change.RowChange.{RowChange}
 use Rattle.vl_exec.specs.declared.row_change.RowChange.TheVariants.{Remove, Set}
 use Rattle.vl_exec.specs.declared.target.Target.{Target}
 use Rattle.vl_exec.specs.Progress.{Progress}
-use Rattle.vl_exec.specs.Visiting.{visited}
+use Rattle.vl_model.specs.Visiting.{visited}
 
 -- the key of a row of the table of this number
 abbrev pub key_in : Catalog → ℕ → List Value → Key
@@ -52,8 +52,8 @@ writing actions = record { search = None; writes = actions; done = 0; wrote = fa
 
 abbrev pub begun : Catalog → Plan → Progress
 begun catalog (plans.Insert plan) = writing (map (insertion catalog plan.table) plan.rows)
-begun catalog (plans.Update plan) = searching plan.pred (Set plan.settings) (visited catalog plan.pred.table plan.route)
-begun catalog (plans.Delete plan) = searching plan.pred Remove (visited catalog plan.pred.table plan.route)
+begun catalog (plans.Update plan) = searching plan.pred (Set plan.settings) (visited catalog plan.pred.table plan.route [])
+begun catalog (plans.Delete plan) = searching plan.pred Remove (visited catalog plan.pred.table plan.route [])
 begun catalog _ = writing []
 
 -- no lookup stands between a statement and the rows of the table of this number

@@ -1,9 +1,7 @@
 -- What a statement has done so far, as the shards show it.
-use Rattle.std.specs.Prelude.{◌≡◌, ◌<◌, ◌≤◌, ◌↔◌, ℕ, true, slice_get, Option, Some, None}
-use Rattle.vl_values.specs.declared.group.Group.{Group}
+use Rattle.std.specs.Prelude.{◌≡◌, ◌<◌, ◌≤◌, ℕ, slice_get, Option, Some, None}
 use Rattle.vl_values.specs.declared.group.Group.TheVariants.{Main}
 use Rattle.vl_values.specs.declared.key.Key.{Key}
-use Rattle.vl_values.specs.declared.reply.Reply.TheVariants as replies
 use Rattle.vl_port.specs.declared.act.Act.{Act}
 use Rattle.vl_port.specs.declared.tx_state.TxState.{TxState}
 use Rattle.vl_port.specs.declared.who.Who.{Who}
@@ -12,8 +10,6 @@ use Rattle.vl_port.specs.Serving.{Shards}
 use Rattle.vl_port.specs.Transaction.{session_of}
 use Rattle.vl_port.specs.View.{View, Values, standing}
 use Rattle.vl_exec.specs.declared.action.Action.{Action}
-use Rattle.vl_exec.specs.declared.program_told.ProgramTold.{ProgramTold}
-use Rattle.vl_exec.specs.declared.program_told.ProgramTold.TheVariants as told
 use Rattle.vl_exec.specs.declared.search.Search.{Search}
 use Rattle.vl_exec.specs.Changes.{write_of}
 use Rattle.vl_exec.specs.Making.{written_key}
@@ -44,22 +40,3 @@ AreOwedBy seen tx (Some search) p shard = (n : ℕ) (action : Action) → p.done
 -- the rows that are still to be written on the shard stand as they were found, under lock
 abbrev pub AreOwed : Shards → TxState → Progress → ℕ → Type 0
 AreOwed seen tx p shard = AreOwedBy seen tx p.search p shard
-
--- ---- a refusal
-
--- the reply says that a transaction stays open whose statement was refused
-abbrev pub LeavesOpen : ProgramTold → Type 0
-LeavesOpen told.More = ⊥
-LeavesOpen (told.Held by key tries) = ⊥
-LeavesOpen (told.Reply (replies.Ok affected found warnings tx auto)) = ⊥
-LeavesOpen (told.Reply (replies.Rows columns rows tx auto)) = ⊥
-LeavesOpen (told.Reply (replies.Err code why tx)) = tx ≡ true
-
--- the transaction's sessions have the pending versions that they had
-abbrev pub HasPendingOf : TxState → Shards → Shards → Type 0
-HasPendingOf tx old new = (shard : ℕ) (group : Group) (key : Key) (row : Option Values)
-    → ((old shard).pending key ≡ Some (record { who = session_of tx group; row = row })) ↔ ((new shard).pending key ≡ Some (record { who = session_of tx group; row = row }))
-
--- each key that a session of the transaction held it holds
-abbrev pub HasLocksOf : TxState → Shards → Shards → Type 0
-HasLocksOf tx old new = (shard : ℕ) (group : Group) (key : Key) → (old shard).holder key ≡ Some (session_of tx group) → (new shard).holder key ≡ Some (session_of tx group)

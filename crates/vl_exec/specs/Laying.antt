@@ -10,7 +10,7 @@ use Rattle.vl_exec.specs.declared.target.Target.{Target}
 use Rattle.vl_exec.specs.declared.row_change.RowChange.TheVariants.{Remove, Set}
 use Rattle.vl_exec.specs.Begun.{insertion_at, searching, target_of, writing}
 use Rattle.vl_exec.specs.Progress.{Progress}
-use Rattle.vl_exec.specs.Visiting.{visited}
+use Rattle.vl_model.specs.Visiting.{visited}
 
 -- each row at its target
 abbrev pub with_rows : List Target → List (List Value) → List Action
@@ -20,8 +20,8 @@ with_rows (target ∷ targets) (row ∷ rows) = insertion_at target row ∷ with
 
 abbrev pub IsLaidFor : Catalog → Plan → Groundwork → Type 0
 IsLaidFor catalog (plans.Insert plan) laid = (laid.targets.items ≡ map (target_of catalog plan.table) plan.rows) × (laid.actions.items ≡ []) × (length plan.rows ≤ vec_capacity laid.actions)
-IsLaidFor catalog (plans.Update plan) laid = (laid.actions.items ≡ []) × (laid.shards.items ≡ visited catalog plan.pred.table plan.route)
-IsLaidFor catalog (plans.Delete plan) laid = (laid.actions.items ≡ []) × (laid.shards.items ≡ visited catalog plan.pred.table plan.route)
+IsLaidFor catalog (plans.Update plan) laid = (laid.actions.items ≡ []) × (laid.shards.items ≡ visited catalog plan.pred.table plan.route [])
+IsLaidFor catalog (plans.Delete plan) laid = (laid.actions.items ≡ []) × (laid.shards.items ≡ visited catalog plan.pred.table plan.route [])
 IsLaidFor catalog _ laid = laid.actions.items ≡ []
 
 -- no memory is wanted for what the plan still asks for

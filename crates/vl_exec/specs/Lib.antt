@@ -7,4 +7,3 @@ pub mod Making
 pub mod Progress
 pub mod Staging
 pub mod Stepping
-pub mod Visiting

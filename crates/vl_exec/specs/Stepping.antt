@@ -6,9 +6,11 @@ use Rattle.vl_port.specs.declared.answer.Answer.{Answer}
 use Rattle.vl_port.specs.declared.tx_state.TxState.{TxState}
 use Rattle.vl_port.specs.Asking.{HasAnswered, IsUnasked}
 use Rattle.vl_port.specs.Calls.{PortView}
+use Rattle.vl_port.specs.Limiting.{is_full}
 use Rattle.vl_exec.specs.declared.action.Action.{Action}
-use Rattle.vl_exec.specs.declared.program_told.ProgramTold.{ProgramTold}
-use Rattle.vl_exec.specs.Answering.{Answered, is_full, limit_of_changes, refused, reply_of}
+use Rattle.vl_statement.specs.declared.program_told.ProgramTold.{ProgramTold}
+use Rattle.vl_statement.specs.Refusing.{limit_of_changes}
+use Rattle.vl_exec.specs.Answering.{Answered, refused, reply_of}
 use Rattle.vl_exec.specs.Progress.{Progress, due}
 
 -- a step: what it told, and the program, the transaction and the port after it

@@ -12,11 +12,9 @@
 
 pub mod action;
 mod actions;
-mod answering;
 mod changes;
 mod groundwork;
 pub mod program;
-pub mod program_told;
 pub mod row_change;
 pub mod running;
 pub mod search;
@@ -28,4 +26,3 @@ mod test_catalogs;
 mod test_stage;
 #[cfg(test)]
 mod tests;
-mod visiting;

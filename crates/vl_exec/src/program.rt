@@ -3,7 +3,7 @@ ghost use Rattle.std.specs.Option.{option_copied, option_map};
 ghost use Rattle.vl_values.specs.declared.cause.Cause.TheVariants as causes;
 ghost use Rattle.vl_port.specs.declared.answer.Answer.TheVariants as answers;
 ghost use Rattle.vl_exec.specs.declared.action.Action.{Action as AnAction};
-ghost use Rattle.vl_exec.specs.declared.program_told.ProgramTold.TheVariants.{More};
+ghost use Rattle.vl_statement.specs.declared.program_told.ProgramTold.TheVariants.{More};
 ghost use Rattle.vl_rules.specs.Order.{Checked};
 ghost use Rattle.vl_plan.specs.Fits.{Fits};
 ghost use Rattle.vl_port.specs.Asking.{IsSameTx, Lists};
@@ -12,9 +12,11 @@ ghost use Rattle.vl_port.specs.Others.{LeavesOthers};
 ghost use Rattle.vl_port.specs.Serving.{Serves};
 ghost use Rattle.vl_port.specs.Transaction.{IsIn, last_tx};
 ghost use Rattle.vl_catalog.specs.Place.{shard_count};
-ghost use Rattle.vl_exec.specs.Answering.{Answered, Goes, IsWell, Waits, is_full, limit_of_changes, refused, refused_whole, reply_of};
+ghost use Rattle.vl_statement.specs.Refusing.{limit_of_changes};
+ghost use Rattle.vl_statement.specs.Effects.{HasLocksOf, HasPendingOf, IsWell, LeavesOpen};
+ghost use Rattle.vl_exec.specs.Answering.{Answered, Goes, Waits, refused, reply_of};
 ghost use Rattle.vl_exec.specs.Begun.{begun, can_run, searching, writing};
-ghost use Rattle.vl_exec.specs.Effects.{AreOwed, HasLocksOf, HasPendingOf, HasWritten, LeavesOpen};
+ghost use Rattle.vl_exec.specs.Effects.{AreOwed, HasWritten};
 ghost use Rattle.vl_exec.specs.Laying.{HasRoomFor, begun_on};
 ghost use Rattle.vl_exec.specs.Making.{IsMade};
 ghost use Rattle.vl_exec.specs.Progress.{IsNearer, acts_done, due, found, with_rows, with_write};
@@ -22,13 +24,10 @@ ghost use Rattle.vl_exec.specs.Stepping.{Stepped};
 
 use crate::action::Action;
 use crate::actions::Actions;
-use crate::answering::{duplicate, lock_wait};
 use crate::groundwork::Groundwork;
-use crate::program_told::ProgramTold;
 use crate::row_change::RowChange;
 use crate::search::Search;
 use crate::starting::{insertions, lay};
-use crate::visiting::each_covers;
 use std::alloc::{AllocError, Global};
 use std::marker::Model;
 use vl_catalog::Catalog;
@@ -43,14 +42,17 @@ use vl_port::asking::ask;
 use vl_port::found_rows::FoundRows;
 use vl_port::port::ShardPort;
 use vl_port::tx_state::TxState;
-use vl_text::shard_name;
+use vl_route::home::each_covers;
+use vl_statement::program_told::ProgramTold;
+use vl_statement::refusing::{
+    device_failed, duplicate_row, limit_of_changes, lock_wait, session_lost,
+};
+use vl_statement::telling;
 use vl_values::cause::Cause;
 use vl_values::group::Group;
 use vl_values::items::Items;
 use vl_values::key::Key;
-use vl_values::limit::Limit;
 use vl_values::pred::Pred;
-use vl_values::reply::Reply;
 use vl_values::{SessionNo, ShardNo};
 
 /// A statement that is run, one action at a time.
@@ -137,22 +139,6 @@ fn begin(plan: Plan, laid: Groundwork) -> Program
     }
 }
 
-// Whether the act is a write that would pass the limit of changes.
-fn is_full(tx: &TxState, act: &Act) -> bool
-    ensures { result ≡ is_full tx.now act.now }
-{
-    match act {
-        Act::Find { .. } => false,
-        _ => tx.changes >= tx.limits.changes,
-    }
-}
-
-fn refusal_whole(why: Cause) -> ProgramTold
-    ensures { result ≡ refused_whole why }
-{
-    ProgramTold::Reply(Reply::refusal(why, false))
-}
-
 impl Program {
     /// The program of a plan: an INSERT, an UPDATE or a DELETE of a table without lookups. The plan comes
     /// back where memory was refused.
@@ -221,30 +207,20 @@ impl Program {
     fn reply(&self, tx: &TxState) -> ProgramTold
         ensures { result ≡ reply_of tx.now self.now }
     {
-        ProgramTold::Reply(Reply::Ok {
-            affected: self.done as u64,
-            found: self.found(),
-            warnings: 0,
-            tx: !tx.single,
-            auto: tx.auto,
-        })
+        telling::done(tx, self.done as u64, self.found())
     }
 
     fn refused(&self, tx: &TxState, why: Cause) -> ProgramTold
         ensures { result ≡ refused tx.now self.now why }
     {
-        let kept = !tx.single && !self.wrote;
-        ProgramTold::Reply(Reply::refusal(why, kept))
+        telling::refused(tx, self.wrote, why)
     }
 
     fn refused_for(&self, tx: &TxState, why: Result<Cause, AllocError>) -> ProgramTold
         ensures ok { IfOk why (λ cause. result ≡ refused tx.now self.now cause) }
         ensures err { OnErr why (result ≡ refused tx.now self.now causes.OutOfMemory) }
     {
-        match why {
-            Ok(cause) => self.refused(tx, cause),
-            Err(_) => self.refused(tx, Cause::OutOfMemory),
-        }
+        telling::refused_for(tx, self.wrote, why)
     }
 
     // Whether another action is due, or the reply.
@@ -306,17 +282,6 @@ impl Program {
         self.refused_for(tx, why)
     }
 
-    // The write that is due would pass the limit of changes.
-    fn refused_full(&self, tx: &TxState) -> ProgramTold
-        ensures { result ≡ refused tx.now self.now (limit_of_changes tx.now) }
-    {
-        let limit = Cause::Limit {
-            what: Limit::Changes,
-            count: u64::from(tx.limits.changes),
-        };
-        self.refused(tx, limit)
-    }
-
     // What the port's answer to the action means.
     fn answered(
         &mut self,
@@ -344,18 +309,14 @@ impl Program {
             },
             Answer::Held { by, key } => self.wait(alloc, catalog, tx, by, key),
             Answer::Found { key, row: _ } => {
-                let why = duplicate(alloc, catalog, shard, &key);
+                let why = duplicate_row(alloc, catalog, shard, &key);
                 self.refused_for(tx, why)
             }
             Answer::Limit { what, count } => self.refused(tx, Cause::Limit { what, count }),
-            Answer::Lost(why) => refusal_whole(Cause::LostSession {
-                shard: shard_name(catalog, shard),
-                group,
-                why,
-            }),
-            Answer::Device => refusal_whole(Cause::DeviceFailed {
-                shard: shard_name(catalog, shard),
-            }),
+            Answer::Lost(why) => {
+                telling::refused_whole(session_lost(catalog, group, shard, why))
+            }
+            Answer::Device => telling::refused_whole(device_failed(catalog, shard)),
             // No write that is done here depends on a value.
             Answer::Memory | Answer::Unchanged => self.refused(tx, Cause::OutOfMemory),
         }
@@ -386,8 +347,8 @@ impl Program {
         let Some(act) = self.due_act() else {
             return self.reply(tx);
         };
-        if is_full(tx, act) {
-            return self.refused_full(tx);
+        if tx.is_full(act) {
+            return self.refused(tx, limit_of_changes(tx));
         }
         let asked = ask(port, tx, group, shard, act);
         match asked {

@@ -6,11 +6,11 @@ ghost use Rattle.vl_exec.specs.Laying.{IsLaidFor, with_rows};
 use crate::action::Action;
 use crate::groundwork::Groundwork;
 use crate::target::Target;
-use crate::visiting::visited;
 use std::alloc::{AllocError, Global};
 use vl_catalog::Catalog;
 use vl_plan::plan::Plan;
 use vl_port::act::Act;
+use vl_route::visiting::visited;
 use vl_values::TableNo;
 use vl_values::group::Group;
 use vl_values::key::Key;
@@ -84,10 +84,10 @@ pub(crate) fn lay(alloc: Global, catalog: &Catalog, plan: &Plan) -> Result<Groun
             actions = Vec::with_capacity(alloc, rows.len())?;
         }
         Plan::Update(plan) => {
-            shards = visited(alloc, catalog, plan.pred.table, &plan.route)?;
+            shards = visited(alloc, catalog, plan.pred.table, &plan.route, &[])?;
         }
         Plan::Delete(plan) => {
-            shards = visited(alloc, catalog, plan.pred.table, &plan.route)?;
+            shards = visited(alloc, catalog, plan.pred.table, &plan.route, &[])?;
         }
         _ => {}
     }

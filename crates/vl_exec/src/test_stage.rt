@@ -4,12 +4,11 @@ ghost use Rattle.vl_rules.specs.Order.{Checked};
 ghost use Rattle.vl_port.specs.declared.who.Who.{Who as AWho};
 ghost use Rattle.vl_port.specs.Serving.{Serves};
 ghost use Rattle.vl_shard.specs.Banks.{count_of, seen_of};
-ghost use Rattle.vl_exec.specs.Answering.{IsWell};
+ghost use Rattle.vl_statement.specs.Effects.{IsWell};
 ghost use Rattle.vl_exec.specs.Making.{IsMade};
 ghost use Rattle.vl_exec.specs.Staging.{IsClient};
 
 use crate::program::Program;
-use crate::program_told::ProgramTold;
 use crate::running::can_run;
 use crate::test_catalogs::catalog_n;
 use std::alloc::{AllocError, Global};
@@ -25,6 +24,7 @@ use vl_port::script_link::ScriptLink;
 use vl_port::tx_state::TxState;
 use vl_shard::bank::Bank;
 use vl_sql::parse;
+use vl_statement::program_told::ProgramTold;
 use vl_values::group::Group;
 use vl_values::{SessionNo, ShardNo};
 

@@ -1,4 +1,3 @@
-use crate::program_told::ProgramTold;
 use crate::test_stage::Stage;
 use std::alloc::{AllocError, Global};
 use std::process::Abort;
@@ -6,6 +5,7 @@ use std::test::Fail;
 use vl_port::committed::Committed;
 use vl_port::limits::Limits;
 use vl_port::loss::Loss;
+use vl_statement::program_told::ProgramTold;
 use vl_values::key::Key;
 use vl_values::reply::Reply;
 use vl_values::row::Row;
@@ -201,7 +201,7 @@ static WAITS: [Call; 14] = [
     Call::Carried(0, 7),
 ];
 
-static SEVERAL_VALUES: [Call; 14] = [
+static SEVERAL_VALUES: [Call; 13] = [
     Call::Join(1, 100, true, false),
     Call::Say(0, "INSERT INTO n(id,v) VALUES(1,5),(2,5)"),
     Call::More(0),
@@ -213,10 +213,9 @@ static SEVERAL_VALUES: [Call; 14] = [
     // Both rows would stand on shard 0, and one is left.
     Call::Say(0, "DELETE FROM n WHERE id IN (1,2)"),
     Call::More(0),
-    Call::More(0),
     Call::Reply(0, "OK 1 of 1, warnings 0, open true, autocommit true"),
     Call::Carried(0, 6),
-    Call::Carried(1, 1),
+    Call::Carried(1, 0),
 ];
 
 static UPDATES: [Call; 24] = [
@@ -395,9 +394,7 @@ fn a_delete_waits_for_the_insert_of_its_row_until_its_limit(rt: HostRuntime) -> 
 }
 
 #[test]
-fn a_delete_reads_one_shard_for_one_value_and_each_for_several(
-    rt: HostRuntime,
-) -> Result<(), Fail> {
+fn a_delete_reads_the_shards_of_its_values_and_no_others(rt: HostRuntime) -> Result<(), Fail> {
     play(&rt, rt.alloc(), &SEVERAL_VALUES)
 }
 

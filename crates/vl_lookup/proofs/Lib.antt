@@ -1,6 +1,5 @@
 pub mod Answered
 pub mod Asides
-pub mod Homes
 pub mod Made
 pub mod Matching
 pub mod Rows

@@ -23,13 +23,13 @@ use Rattle.vl_rules.specs.Lookups.{indexed_columns, is_wide_column}
 use Rattle.vl_rules.specs.Order.{Checked}
 use Rattle.vl_rules.proofs.LookupsKept.{lookup_kept}
 use Rattle.vl_rules.proofs.TablesKept.{table_kept}
-use Rattle.vl_model.specs.Entries.{first_column, from_columns, key_but}
+use Rattle.vl_model.specs.Entries.{first_column, from_columns, key_but, named_in}
 use Rattle.vl_port.specs.View.{Values}
 use Rattle.vl_lookup.specs.declared.stage.Stage.TheVariants as stages
 use Rattle.vl_lookup.specs.Entry.{at, entry_row, test_of}
 use Rattle.vl_lookup.specs.Making.{HasOwner, IsClaim, IsIndexedRow, IsMadeFor, entry_values}
-use Rattle.vl_lookup.specs.Progress.{Progress, named_in}
-use Rattle.vl_lookup.proofs.Homes.{placed_within}
+use Rattle.vl_lookup.specs.Progress.{Progress}
+use Rattle.vl_route.proofs.Homes.{placed_within}
 use Rattle.vl_lookup.proofs.Matching.{AreWhole, matched}
 use Rattle.vl_lookup.proofs.Rows.{Fitting, entry_fits, from_values, given_typed, named_to, to_within}
 

@@ -3,6 +3,7 @@ use Rattle.std.proofs.Common.{◌≡◌, ◌<◌, ◌&&◌, ℕ, Bool, true, fal
 use Rattle.std.proofs.lemmas.Option.{same_Some}
 use Rattle.vl_values.specs.declared.group.Group.TheVariants.{Pre, Main}
 use Rattle.vl_values.specs.declared.key.Key.{Key}
+use Rattle.vl_values.specs.declared.limit.Limit.TheVariants as quantities
 use Rattle.vl_values.specs.Keyed.{is_among_keys}
 use Rattle.vl_catalog.specs.declared.catalog.Catalog.{Catalog}
 use Rattle.vl_port.specs.declared.act.Act.{Act}
@@ -14,6 +15,7 @@ use Rattle.vl_port.specs.declared.tx_state.TxState.{TxState}
 use Rattle.vl_port.specs.Asking.{HasAnswered, HasAsked, IsSameTx, IsUnasked}
 use Rattle.vl_port.specs.declared.asked.Asked.TheVariants.{Unlisted, Answered}
 use Rattle.vl_port.specs.Calls.{PortView}
+use Rattle.vl_port.specs.Limiting.{is_full}
 use Rattle.vl_port.specs.Transaction.{session_of}
 use Rattle.vl_port.specs.View.{Values}
 use Rattle.vl_lookup.specs.declared.claim_told.ClaimTold.{ClaimTold}
@@ -23,7 +25,7 @@ use Rattle.vl_lookup.specs.declared.stage.Stage.TheVariants as stages
 use Rattle.vl_lookup.specs.Answering.{AnsweredAt, CheckAnswered, CheckRead, FirstAnswered, IsCheckAnswer, IsFirstAnswer, IsPutAnswer, IsRefusal, PutAnswered, at_stage, claim_free, first_key, is_kept, told_free, with_passed}
 use Rattle.vl_lookup.specs.Making.{IsClaim, IsStageOn}
 use Rattle.vl_lookup.specs.Progress.{Progress, due_at, is_first}
-use Rattle.vl_lookup.specs.Stepping.{ClaimStepped, Crossed, Did, NoRoom, with_claimed}
+use Rattle.vl_lookup.specs.Stepping.{ClaimStepped, Crossed, Did, Full, NoRoom, with_claimed}
 use Rattle.vl_lookup.proofs.Answered.{check_answer, first_answer, put_answer}
 
 -- ---- answers
@@ -73,11 +75,12 @@ not_first : (tx : TxState) (old : Progress) (stage : Stage) → old.stage ≡ st
 not_first tx old stage is later = ap (λ (b : Bool). b && is_among_keys tx.removed old.key) (ap is_first is ∙ later)
 
 did_at : (catalog : Catalog) (old new : Progress) (tx listed tx_new : TxState) (port after : PortView) (tells : ClaimTold) (answer : Answer) (claimed : List Claimed) (stage : Stage) → old.stage ≡ stage
-    → (is_first old.stage && is_among_keys tx.removed old.key) ≡ false
+    → (is_first old.stage && is_among_keys tx.removed old.key) ≡ false → is_full tx (due_at stage old).act ≡ false
     → HasAnswered port tx (due_at stage old).group (due_at stage old).shard (due_at stage old).act answer listed after → tx_new ≡ with_claimed claimed listed
     → AnsweredAt stage catalog old tx.claimed answer tells new claimed → ClaimStepped catalog old tx port tells new tx_new after
-did_at catalog old new tx listed tx_new port after tells answer claimed stage is uncrossed asked tx_is answered =
+did_at catalog old new tx listed tx_new port after tells answer claimed stage is uncrossed room asked tx_is answered =
     Did answer listed claimed uncrossed
+    (subst (λ (s : Stage). is_full tx (due_at s old).act ≡ false) (sym is) room)
     (subst (λ (s : Stage). HasAnswered port tx (due_at s old).group (due_at s old).shard (due_at s old).act answer listed after) (sym is) asked)
     tx_is
     (subst (λ (s : Stage). AnsweredAt s catalog old tx.claimed answer tells new claimed) (sym is) answered)
@@ -87,16 +90,16 @@ pub did_check : (catalog : Catalog) (old new : Progress) (tx listed tx_new : TxS
     → (claimed : List Claimed) × (tx_new ≡ with_claimed claimed listed) × ((ksid : List ℕ) → old.stage ≡ stages.Check ksid shard → CheckAnswered ksid shard old listed.claimed answer tells new claimed)
     → ClaimStepped catalog old tx port tells new tx_new after
 did_check catalog old new tx listed tx_new port after tells shard act answer stage is asked same answered =
-    did_at catalog old new tx listed tx_new port after tells answer answered.0 (stages.Check stage.0 shard) stage.1 (not_first tx old (stages.Check stage.0 shard) stage.1 refl)
+    did_at catalog old new tx listed tx_new port after tells answer answered.0 (stages.Check stage.0 shard) stage.1 (not_first tx old (stages.Check stage.0 shard) stage.1 refl) refl
     (subst (λ (a : Act). HasAnswered port tx Main shard a answer listed after) is asked) answered.1
     (subst (λ (c : List Claimed). CheckAnswered stage.0 shard old c answer tells new answered.0) same.claimed (answered.2 stage.0 stage.1))
 
 pub did_put : (catalog : Catalog) (old : Progress) (tx listed : TxState) (port after : PortView) (tells : ClaimTold) (shard : ℕ) (act : Act) (answer : Answer)
-    → old.stage ≡ stages.Put → act ≡ Put old.key old.row → shard ≡ old.shard → HasAsked port tx Pre shard act (Answered answer) listed after → IsSameTx tx listed
+    → old.stage ≡ stages.Put → act ≡ Put old.key old.row → is_full tx act ≡ false → shard ≡ old.shard → HasAsked port tx Pre shard act (Answered answer) listed after → IsSameTx tx listed
     → ((claim : Progress) (claimed : List Claimed) → claim.shard ≡ shard → PutAnswered claim claimed answer tells claim claimed)
     → ClaimStepped catalog old tx port tells old listed after
-did_put catalog old tx listed port after tells shard act answer stage is shard_is asked same answered =
-    did_at catalog old old tx listed listed port after tells answer tx.claimed stages.Put stage (not_first tx old stages.Put stage refl)
+did_put catalog old tx listed port after tells shard act answer stage is room shard_is asked same answered =
+    did_at catalog old old tx listed listed port after tells answer tx.claimed stages.Put stage (not_first tx old stages.Put stage refl) (subst (λ (a : Act). is_full tx a ≡ false) is room)
     (subst (λ (n : ℕ). HasAnswered port tx Pre n (Put old.key old.row) answer listed after) shard_is (subst (λ (a : Act). HasAnswered port tx Pre shard a answer listed after) is asked))
     (ap (λ (c : List Claimed). with_claimed c listed) same.claimed)
     (answered old tx.claimed (sym shard_is))
@@ -114,18 +117,32 @@ free_from keys removed k key b tested free keys_are key_is =
 
 -- the list was taken out, and given back as the answer leaves it
 pub did_first : (catalog : Catalog) (old new : Progress) (tx aside listed tx_new : TxState) (port after : PortView) (tells : ClaimTold) (shard : ℕ) (act : Act) (answer : Answer) (list : List Claimed)
-    → old.stage ≡ stages.First → shard ≡ old.shard → is_among_keys tx.removed old.key ≡ false → act ≡ Insert old.key old.row → aside ≡ with_claimed [] tx → list ≡ tx.claimed
+    → old.stage ≡ stages.First → shard ≡ old.shard → is_among_keys tx.removed old.key ≡ false → act ≡ Insert old.key old.row → is_full tx act ≡ false → aside ≡ with_claimed [] tx → list ≡ tx.claimed
     → ((c : List Claimed) → HasAsked port (with_claimed c aside) Pre shard act (Answered answer) (with_claimed c listed) after)
     → (claimed : List Claimed) × (tx_new ≡ with_claimed claimed listed) × FirstAnswered catalog old list answer tells new claimed
     → ClaimStepped catalog old tx port tells new tx_new after
-did_first catalog old new tx aside listed tx_new port after tells shard act answer list stage shard_is free is aside_is list_is asked answered =
+did_first catalog old new tx aside listed tx_new port after tells shard act answer list stage shard_is free is room aside_is list_is asked answered =
     let whole : with_claimed tx.claimed aside ≡ tx = ap (with_claimed tx.claimed) aside_is in
-    did_at catalog old new tx (with_claimed tx.claimed listed) tx_new port after tells answer answered.0 stages.First stage (uncrossed tx old free)
+    did_at catalog old new tx (with_claimed tx.claimed listed) tx_new port after tells answer answered.0 stages.First stage (uncrossed tx old free) (subst (λ (a : Act). is_full tx a ≡ false) is room)
     (subst (λ (n : ℕ). HasAnswered port tx Pre n (Insert old.key old.row) answer (with_claimed tx.claimed listed) after) shard_is
     (subst (λ (a : Act). HasAnswered port tx Pre shard a answer (with_claimed tx.claimed listed) after) is
     (subst (λ (t : TxState). HasAnswered port t Pre shard act answer (with_claimed tx.claimed listed) after) whole (asked tx.claimed))))
     answered.1
     (subst (λ (c : List Claimed). FirstAnswered catalog old c answer tells new answered.0) list_is answered.2)
+
+-- the write that is due at the stage would pass the limit of changes
+full_at : (catalog : Catalog) (old : Progress) (tx : TxState) (port : PortView) (tells : ClaimTold) (stage : Stage) → old.stage ≡ stage → (is_first old.stage && is_among_keys tx.removed old.key) ≡ false
+    → is_full tx (due_at stage old).act ≡ true → tells ≡ told.Limit quantities.Changes tx.limits.changes → ClaimStepped catalog old tx port tells old tx port
+full_at catalog old tx port tells stage is uncrossed full says =
+    Full uncrossed (subst (λ (s : Stage). is_full tx (due_at s old).act ≡ true) (sym is) full) says refl (record { same = refl; shown = refl })
+
+pub full_first : (catalog : Catalog) (old : Progress) (tx : TxState) (port : PortView) (tells : ClaimTold) (act : Act) → old.stage ≡ stages.First → is_among_keys tx.removed old.key ≡ false → act ≡ Insert old.key old.row
+    → is_full tx act ≡ true → tells ≡ told.Limit quantities.Changes tx.limits.changes → ClaimStepped catalog old tx port tells old tx port
+full_first catalog old tx port tells act stage free is full says = full_at catalog old tx port tells stages.First stage (uncrossed tx old free) (subst (λ (a : Act). is_full tx a ≡ true) is full) says
+
+pub full_put : (catalog : Catalog) (old : Progress) (tx : TxState) (port : PortView) (tells : ClaimTold) (act : Act) → old.stage ≡ stages.Put → act ≡ Put old.key old.row → is_full tx act ≡ true
+    → tells ≡ told.Limit quantities.Changes tx.limits.changes → ClaimStepped catalog old tx port tells old tx port
+full_put catalog old tx port tells act stage is full says = full_at catalog old tx port tells stages.Put stage (not_first tx old stages.Put stage refl) (subst (λ (a : Act). is_full tx a ≡ true) is full) says
 
 pub unasked_first : (catalog : Catalog) (old : Progress) (tx aside listed tx_new : TxState) (port after : PortView) (shard : ℕ) (act : Act) (list : List Claimed) → aside ≡ with_claimed [] tx → list ≡ tx.claimed
     → ((c : List Claimed) → HasAsked port (with_claimed c aside) Pre shard act Unlisted (with_claimed c listed) after) → tx_new ≡ with_claimed list listed

@@ -13,7 +13,8 @@ use Rattle.vl_lookup.specs.declared.claim_told.ClaimTold.{ClaimTold}
 use Rattle.vl_lookup.specs.declared.claim_told.ClaimTold.TheVariants as told
 use Rattle.vl_lookup.specs.declared.stage.Stage.{Stage}
 use Rattle.vl_lookup.specs.declared.stage.Stage.TheVariants as stages
-use Rattle.vl_lookup.specs.Progress.{Progress, named_by, stage_for}
+use Rattle.vl_model.specs.Entries.{named_by}
+use Rattle.vl_lookup.specs.Progress.{Progress, stage_for}
 
 -- ---- the list of claimed keys
 

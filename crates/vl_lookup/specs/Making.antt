@@ -11,11 +11,11 @@ use Rattle.vl_catalog.specs.declared.lookup.Lookup.{Lookup}
 use Rattle.vl_catalog.specs.declared.table.Table.{Table}
 use Rattle.vl_catalog.specs.Fitting.{FitsPred, IsPlacedRow, IsRowOf, key_of}
 use Rattle.vl_catalog.specs.Place.{ksid_of}
-use Rattle.vl_model.specs.Entries.{Needs, from_columns}
+use Rattle.vl_model.specs.Entries.{Needs, from_columns, named_by}
 use Rattle.vl_port.specs.View.{Values}
 use Rattle.vl_lookup.specs.declared.stage.Stage.{Stage}
 use Rattle.vl_lookup.specs.declared.stage.Stage.TheVariants as stages
-use Rattle.vl_lookup.specs.Progress.{Progress, named_by}
+use Rattle.vl_lookup.specs.Progress.{Progress}
 
 -- the lookup of a number, and its owner with its number
 pub record HasOwner (catalog : Catalog) (number : ℕ) (lookup : Lookup) (owner_number : ℕ) (owner : Table) : Type 0 where

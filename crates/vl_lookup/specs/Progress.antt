@@ -1,11 +1,9 @@
 -- A claim in progress, the action that is due, and what an entry names.
-use Rattle.std.specs.Prelude.{ℕ, Bool, true, false, List, slice_index_or, Option, Some, None}
+use Rattle.std.specs.Prelude.{ℕ, Bool, true, false, List, Option, Some, None}
 use Rattle.vl_values.specs.declared.group.Group.{Group}
 use Rattle.vl_values.specs.declared.group.Group.TheVariants.{Pre, Main}
 use Rattle.vl_values.specs.declared.key.Key.{Key}
 use Rattle.vl_values.specs.declared.pred.Pred.{Pred}
-use Rattle.vl_values.specs.declared.value.Value.{Value}
-use Rattle.vl_values.specs.declared.value.Value.TheVariants.{Null, Int, Uint, Bytes}
 use Rattle.vl_catalog.specs.declared.catalog.Catalog.{Catalog}
 use Rattle.vl_catalog.specs.Place.{shard_in}
 use Rattle.vl_port.specs.declared.act.Act.{Act}
@@ -55,17 +53,7 @@ is_first stages.First = true
 is_first (stages.Check ksid shard) = false
 is_first stages.Put = false
 
--- ---- what an entry names
-
--- the keyspace id in a value of the entry's column for it; NULL names none
-abbrev pub named_in : Value → Option (List ℕ)
-named_in Null = None
-named_in (Int n) = None
-named_in (Uint n) = None
-named_in (Bytes ksid) = Some ksid
-
-abbrev pub named_by : ℕ → Values → Option (List ℕ)
-named_by to row = named_in (slice_index_or row to Null)
+-- ---- what is to be done about an entry
 
 -- the shard that a keyspace id names in the owner's keyspace
 abbrev pub home : Catalog → Progress → List ℕ → ℕ

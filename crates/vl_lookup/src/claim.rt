@@ -1,6 +1,7 @@
 ghost use Rattle.std.specs.Prelude.{◌≡◌, ◌≤◌, ◌<◌, ◌^◌, ℕ, true, List, IfOk, IfSome, length, vec_capacity, vec_len};
 ghost use Rattle.vl_catalog.specs.declared.catalog.Catalog.{Catalog as ACatalog};
 ghost use Rattle.vl_catalog.specs.Place.{shard_count};
+ghost use Rattle.vl_values.specs.declared.limit.Limit.TheVariants as quantities;
 ghost use Rattle.vl_port.specs.declared.act.Act.TheVariants as acts;
 ghost use Rattle.vl_port.specs.declared.claimed.Claimed.{Claimed as AClaimed};
 ghost use Rattle.vl_port.specs.Calls.{IsSamePort};
@@ -12,15 +13,15 @@ ghost use Rattle.vl_lookup.specs.declared.claim_told.ClaimTold.TheVariants as to
 ghost use Rattle.vl_lookup.specs.declared.stage.Stage.TheVariants as stages;
 ghost use Rattle.vl_lookup.specs.Answering.{CheckAnswered, CheckRead, FirstAnswered, IsCheckAnswer, IsFirstAnswer, IsPutAnswer, IsRefusal, IsRefusing, PutAnswered, claim_free, first_key, is_kept, told_free};
 ghost use Rattle.vl_lookup.specs.Making.{IsClaim, IsIndexedRow, IsMadeFor, IsStageOn};
-ghost use Rattle.vl_lookup.specs.Progress.{Progress, acts_left, due, named_by, stage_for};
+ghost use Rattle.vl_model.specs.Entries.{named_by};
+ghost use Rattle.vl_lookup.specs.Progress.{Progress, acts_left, due, stage_for};
 ghost use Rattle.vl_lookup.specs.Stepping.{ClaimStepped, IsSameTxButClaims, with_claimed};
 ghost use Rattle.vl_values.specs.Keyed.{is_among_keys};
 
 use crate::asking::ask_aside;
 use crate::claim_told::ClaimTold;
 use crate::claims::{add_claim, give_claims, pass_claim, take_claims};
-use crate::entry::{covers, entry_row, from_columns, is_each_once, tests_of};
-use crate::home::home_of;
+use crate::entry::{entry_row, from_columns, is_each_once, tests_of};
 use crate::stage::Stage;
 use std::alloc::{AllocError, Global};
 use std::marker::Model;
@@ -33,10 +34,13 @@ use vl_port::claimed::Claimed;
 use vl_port::found_rows::FoundRows;
 use vl_port::port::ShardPort;
 use vl_port::tx_state::TxState;
+use vl_route::home::{covers, home_of};
+use vl_route::visiting::named_by;
 use vl_values::ShardNo;
 use vl_values::bytes::Bytes;
 use vl_values::group::Group;
 use vl_values::key::Key;
+use vl_values::limit::Limit;
 use vl_values::pred::Pred;
 use vl_values::row::Row;
 use vl_values::tests::Tests;
@@ -76,20 +80,6 @@ fn is_among(keys: &[Key], key: &Key) -> bool
     keys.iter().any(|one| key == one)
 }
 
-// The keyspace id that a row of the lookup's table names in a column.
-fn named_by(row: Row, to: usize) -> Option<Bytes>
-    ensures { result ≡ named_by to row }
-{
-    let mut values = row.into_vec();
-    if to >= values.len() {
-        return None;
-    }
-    match values.swap_remove(to) {
-        Value::Bytes(ksid) => Some(ksid),
-        Value::Null | Value::Int(_) | Value::Uint(_) => None,
-    }
-}
-
 // The key of the first of the rows.
 fn first_key(rows: FoundRows) -> Option<Key>
     ensures { result ≡ first_key rows }
@@ -117,6 +107,16 @@ fn refusal(shard: ShardNo, answer: Answer) -> ClaimTold
         | Answer::Unchanged
         | Answer::Rows(_)
         | Answer::Found { .. } => ClaimTold::Memory,
+    }
+}
+
+// The write that is due would pass the limit of changes.
+fn full_told(tx: &TxState) -> ClaimTold
+    ensures { result ≡ told.Limit quantities.Changes tx.now.limits.changes }
+{
+    ClaimTold::Limit {
+        what: Limit::Changes,
+        count: u64::from(tx.limits.changes),
     }
 }
 
@@ -223,6 +223,23 @@ impl Claim {
         match &self.stage {
             Stage::First | Stage::Put => (Group::Pre, self.shard),
             Stage::Check { ksid: _, shard } => (Group::Main, *shard),
+        }
+    }
+
+    /// The number of the lookup.
+    pub fn lookup(&self) -> LookupNo
+        ensures { result ≡ self.now.lookup }
+    {
+        self.lookup
+    }
+
+    /// The values of the entry that is claimed, one for each column of the lookup's table.
+    pub fn entry(&self) -> &[Value]
+        ensures { result.now ≡ self.now.row }
+    {
+        match &self.insert {
+            Act::Insert { key: _, row } => row.as_slice(),
+            _ => &[],
         }
     }
 
@@ -347,10 +364,14 @@ impl Claim {
         if crossed {
             return ClaimTold::SelfHeld { key };
         }
+        let act = self.insertion();
+        if tx.is_full(act) {
+            return full_told(tx);
+        }
         let Ok(list) = take_claims(alloc, tx) else {
             return ClaimTold::Memory;
         };
-        let asked = ask_aside(port, tx, Group::Pre, self.shard, self.insertion());
+        let asked = ask_aside(port, tx, Group::Pre, self.shard, act);
         match asked {
             Asked::Answered(answer) => self.inserted(catalog, tx, list, key, answer),
             Asked::Unlisted => {
@@ -453,6 +474,9 @@ impl Claim {
         let Some(act) = self.put_act(alloc) else {
             return ClaimTold::Memory;
         };
+        if tx.is_full(&act) {
+            return full_told(tx);
+        }
         let asked = ask(port, tx, Group::Pre, self.shard, &act);
         match asked {
             Asked::Answered(answer) => put_told(self.shard, answer),

@@ -1,6 +1,5 @@
 ghost use Rattle.std.specs.Prelude.{◌≡◌, ◌<◌, ◌++◌, ℕ, Some, IfOk, IsTrue, filter, get_or, length, map, not, position, ◌==◌, ◌∷◌, slice_index_or, []};
 ghost use Rattle.std.specs.Option.{option_map_or};
-ghost use Rattle.vl_vindex.specs.Ring.{CoversOnce};
 ghost use Rattle.vl_values.specs.declared.value.Value.TheVariants.{Bytes as AsBytes, Null};
 ghost use Rattle.vl_model.specs.Entries.{from_columns};
 ghost use Rattle.vl_lookup.specs.Entry.{at, entry_row, entry_value, given_at, test_of};
@@ -177,12 +176,4 @@ pub(crate) fn tests_of(
         tests.push(test_of(alloc, row, *column)?)?;
     }
     Ok(tests)
-}
-
-/// What the ring of a keyspace keeps: each keyspace id has one shard. It is known of a ring that is read.
-pub(crate) fn covers(catalog: &Catalog, keyspace: usize)
-    requires { keyspace < length catalog.now.rings }
-    ensures { CoversOnce (slice_index_or catalog.now.rings keyspace []) }
-{
-    let _ranges = catalog.rings.as_slice()[keyspace].ranges();
 }

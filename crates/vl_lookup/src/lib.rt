@@ -13,5 +13,4 @@ pub mod claim;
 pub mod claim_told;
 mod claims;
 mod entry;
-mod home;
 pub mod stage;

@@ -1,8 +1,8 @@
 -- Rows, entries, and which entry a row needs, over a catalog.
-use Rattle.std.specs.Prelude.{◌≡◌, ℕ, Bool, false, not, List, [], ◌∷◌, ◌++◌, if◌then◌else◌, map, filter, slice_get, ◌==◌, Option, Some, None}
+use Rattle.std.specs.Prelude.{◌≡◌, ℕ, Bool, false, not, List, [], ◌∷◌, ◌++◌, if◌then◌else◌, map, filter, slice_get, slice_index_or, ◌==◌, Option, Some, None}
 use Rattle.std.specs.List.{list_any}
 use Rattle.vl_values.specs.declared.value.Value.{Value}
-use Rattle.vl_values.specs.declared.value.Value.TheVariants.{Bytes}
+use Rattle.vl_values.specs.declared.value.Value.TheVariants.{Null, Int, Uint, Bytes}
 use Rattle.vl_values.specs.Value.{is_null}
 use Rattle.vl_catalog.specs.declared.catalog.Catalog.{Catalog}
 use Rattle.vl_catalog.specs.declared.lookup.Lookup.{Lookup}
@@ -55,3 +55,15 @@ pub record Needs (catalog : Catalog) (lookup : Lookup) (row entry : Pair) : Type
   pub is_entry : IsEntry lookup entry
   pub values : (owner : Table) × (slice_get catalog.tables (table_of row) ≡ Some owner) × (map (column entry) lookup.from ≡ from_values lookup owner row)
   pub names : (ksid : List ℕ) × (to : ℕ) × (ksid_of catalog (table_of row) row.1 ≡ Some ksid) × (lookup.to ≡ Some to) × (column entry to ≡ Bytes ksid)
+
+-- ---- what an entry names
+
+-- the keyspace id in a value of the entry's column for it; NULL names none
+abbrev pub named_in : Value → Option (List ℕ)
+named_in Null = None
+named_in (Int n) = None
+named_in (Uint n) = None
+named_in (Bytes ksid) = Some ksid
+
+abbrev pub named_by : ℕ → List Value → Option (List ℕ)
+named_by to row = named_in (slice_index_or row to Null)

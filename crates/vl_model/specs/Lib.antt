@@ -6,6 +6,7 @@ pub mod Sound
 pub mod Steps
 pub mod Tables
 pub mod Taken
+pub mod Visiting
 pub mod Columns
 pub mod Refusals
 pub mod Routes

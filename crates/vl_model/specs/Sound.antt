@@ -4,15 +4,15 @@ use Rattle.vl_catalog.specs.declared.catalog.Catalog.{Catalog}
 use Rattle.vl_catalog.specs.declared.lookup.Lookup.{Lookup}
 use Rattle.vl_catalog.specs.Place.{place}
 use Rattle.vl_model.specs.Tables.{Tables, Pair, Stands, table_of, column}
-use Rattle.vl_model.specs.Entries.{IsIndexed, Needs}
+use Rattle.vl_model.specs.Entries.{IsEntry, IsIndexed, IsRow, Needs}
 
 -- each row and each entry stands on its place
 abbrev pub Placed : Catalog → Tables → Type 0
 Placed catalog c = (shard : ℕ) (pair : Pair) → Stands c shard pair → place catalog (table_of pair) pair.1 ≡ Some shard
 
--- each indexed value of a row has an entry that the row needs
+-- each indexed value of a row of a plain table has an entry that the row needs
 abbrev pub Covered : Catalog → Tables → Type 0
-Covered catalog c = (lookup : Lookup) (shard : ℕ) (row : Pair) → Contains catalog.lookups lookup → Stands c shard row → IsIndexed lookup row
+Covered catalog c = (lookup : Lookup) (shard : ℕ) (row : Pair) → Contains catalog.lookups lookup → Stands c shard row → IsRow catalog row → IsIndexed lookup row
     → (t : ℕ) × (entry : Pair) × Stands c t entry × Needs catalog lookup row entry
 
 -- rows of the owner of a unique lookup that have one value in its column, which isn't NULL, have one key
@@ -25,6 +25,8 @@ pub record Sound (catalog : Catalog) (c : Tables) : Type 0 where
   pub covered : Covered catalog c
   pub unique : Unique catalog c
 
--- the entries that no row needs
-abbrev pub IsOrphan : Catalog → Tables → Lookup → Pair → Type 0
-IsOrphan catalog c lookup entry = (shard : ℕ) (row : Pair) → Stands c shard row → Needs catalog lookup row entry → ⊥
+-- an entry that stands and that no row needs
+pub record IsOrphan (catalog : Catalog) (c : Tables) (lookup : Lookup) (entry : Pair) : Type 0 where
+  pub is_entry : IsEntry lookup entry
+  pub stands : (shard : ℕ) × Stands c shard entry
+  pub unneeded : (shard : ℕ) (row : Pair) → Stands c shard row → IsRow catalog row → Needs catalog lookup row entry → ⊥

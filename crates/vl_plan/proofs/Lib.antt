@@ -3,12 +3,14 @@ pub mod Assigning
 pub mod Changing
 pub mod Composing
 pub mod Counting
+pub mod EntryPlaces
 pub mod Firsts
 pub mod FitsPlanned
 pub mod Gathering
 pub mod Matching
 pub mod Placing
 pub mod Resolving
+pub mod RouteTests
 pub mod Routing
 pub mod Sorting
 pub mod Storing

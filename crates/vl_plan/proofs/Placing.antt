@@ -68,7 +68,7 @@ numeric_exists ty nullable (Int (negsuc n)) some least number held = cc
 numeric_exists ty nullable (Uint n) some least number held = (_, refl)
 numeric_exists ty nullable (Bytes s) some least number held = absurd (no_bytes ty nullable s number held)
 
-ksid_exists : (vindex : Vindex) (ty : ColType) (nullable : Bool) (v : Value) → is_null v ≡ false → (is_numeric vindex ≡ true → is_negative v ≡ false)
+pub ksid_exists : (vindex : Vindex) (ty : ColType) (nullable : Bool) (v : Value) → is_null v ≡ false → (is_numeric vindex ≡ true → is_negative v ≡ false)
     → (is_numeric vindex ≡ true → rules.is_number_type ty ≡ true) → is_held ty nullable v ≡ true → (ksid : List ℕ) × (ksid_of_value vindex v ≡ Some ksid)
 ksid_exists Numeric ty nullable v some least number held = numeric_exists ty nullable v some (least refl) (number refl) held
 ksid_exists BinaryMd5 ty nullable v some least number held = md5_exists v some
@@ -77,7 +77,7 @@ or_true : (a b : Bool) → a ≡ true → (a || b) ≡ true
 or_true true b e = refl
 or_true false b e = cc
 
-and_true : (a b : Bool) → a ≡ true → b ≡ true → (a && b) ≡ true
+pub and_true : (a b : Bool) → a ≡ true → b ≡ true → (a && b) ≡ true
 and_true true b e f = f
 and_true false b e f = cc
 
@@ -98,7 +98,7 @@ number_by Numeric o column at fits numeric =
     let it : not (rules.is_number_type column.ty) ≡ false = subst (λ (p : Option Column). not (option_map_or (λ (c : Column). rules.is_number_type c.ty) p false) ≡ false) at fits in
     not_false (rules.is_number_type column.ty) it
 
-number_column : (table : Table) (primary : Primary) (column : Column) → table.primary ≡ Some primary → rules.has_numeric_text table ≡ false → slice_get table.columns primary.column ≡ Some column
+pub number_column : (table : Table) (primary : Primary) (column : Column) → table.primary ≡ Some primary → rules.has_numeric_text table ≡ false → slice_get table.columns primary.column ≡ Some column
     → is_numeric primary.vindex ≡ true → rules.is_number_type column.ty ≡ true
 number_column table primary column has fits at numeric =
     number_by primary.vindex (slice_get table.columns primary.column) column at

@@ -1,6 +1,6 @@
 -- Values in ascending order, each once: a list of such values is known by its members.
-use Rattle.std.proofs.Common.{◌≡◌, ℕ, ◌+◌, ◌<◌, ◌⊎◌, inl, inr, Bool, true, false, List, [], ◌∷◌, ◌++◌, length, get_or, refl, sym, ap, ◌∙◌, subst, arith}
-use Rattle.std.specs.Prelude.{Contains, filter, fold, not}
+use Rattle.std.proofs.Common.{◌≡◌, ℕ, ◌+◌, ◌<◌, ◌⊎◌, inl, inr, Bool, true, false, cond, List, [], ◌∷◌, ◌++◌, length, get_or, Some, refl, sym, ap, ◌∙◌, subst, arith}
+use Rattle.std.specs.Prelude.{Contains, filter, find, fold, not}
 use Rattle.std.specs.List.{AllPairs, dedup}
 use Rattle.std.specs.List.Sorted.{IsPermutation, IsSorted, IsStrictlySortedBy}
 use Rattle.std.specs.Ordering.{eq_by_cmp, is_eq, ordering_reverse}
@@ -10,6 +10,7 @@ use Rattle.std.proofs.lemmas.Cmp.{eq_by_cmp_equiv, tied_itself}
 use Rattle.std.proofs.lemmas.List.Elements.{All-contains, All-from_recursion, Contains-append_left, Contains-append_right, Contains-append_cases, Contains-get_or, Contains-push, Contains-push_cases}
 use Rattle.std.proofs.lemmas.List.Kept.{AllPairs-cons, Contains-dedup, Contains-from_dedup, IsStrictlySortedBy-dedup}
 use Rattle.std.proofs.lemmas.List.Sorted.{Contains-permutation, IsPermutation-sym}
+use Rattle.std.proofs.lemmas.Option.{same_Some}
 use Rattle.vl_values.specs.declared.value.Value.{Value}
 use Rattle.vl_values.specs.Order.{value_cmp_total}
 use Rattle.vl_values.specs.Value.{is_null, value_cmp}
@@ -32,6 +33,17 @@ only_member x w h = elim (Contains-push_cases [] x w h) [ inl g ↦ absurd (no_m
 
 pub split_member : {X : Type 0} (x : X) (xs : List X) (w : X) → Contains (x ∷ xs) w → (x ≡ w) ⊎ Contains xs w
 split_member x xs w h = elim (Contains-append_cases (x ∷ []) xs w h) [ inl g ↦ inl (only_member x w g) | inr g ↦ inr g ]
+
+-- what is found passes, and is one of them
+found_by : {X : Type 0} (p : X → Bool) (b : Bool) (x : X) (xs : List X) (a : X) → p x ≡ b → (find p xs ≡ Some a → (p a ≡ true) × Contains xs a)
+    → cond b (Some x) (find p xs) ≡ Some a → (p a ≡ true) × Contains (x ∷ xs) a
+found_by {X} p true x xs a is rest e =
+    let same = same_Some x a e in (subst (λ (it : X). p it ≡ true) same is, subst (λ (it : X). Contains (x ∷ xs) it) same (here x xs))
+found_by p false x xs a is rest e = let found = rest e in (found.0, there x xs a found.1)
+
+pub found_in : {X : Type 0} (p : X → Bool) (xs : List X) (a : X) → find p xs ≡ Some a → (p a ≡ true) × Contains xs a
+found_in p [] a e = cc
+found_in p (x ∷ xs) a e = found_by p (p x) x xs a refl (found_in p xs a) e
 
 -- ---- ascending lists
 

@@ -25,7 +25,7 @@ use Rattle.vl_model.specs.Refusals.{faults, unknown_among}
 use Rattle.vl_rules.proofs.Passed.{at_number, not_true}
 use Rattle.vl_values.specs.declared.test.Test.{Test}
 use Rattle.vl_catalog.specs.Fitting.{IsTestOf}
-use Rattle.vl_plan.specs.Planned.{in_order, number_of, test_of, values_of}
+use Rattle.vl_plan.specs.Planned.{in_order, number_in, number_of, test_of, values_of}
 use Rattle.vl_plan.proofs.Sorting.{here, in_order_ascending, in_order_from, no_member, pairs_ascending, split_member, there}
 use Rattle.vl_plan.proofs.Storing.{empty_parts, passed_one, taken_parts}
 
@@ -55,6 +55,7 @@ pub record IsKnown (columns : List Column) (name : List ℕ) : Type 0 where
   pub number : ℕ
   pub column : Column
   pub is_number : column_number columns name ≡ Some number
+  pub within : number < length columns
   pub is_column : slice_get columns number ≡ Some column
 
 number_known : (columns : List Column) (name : List ℕ) (n : ℕ) → column_number columns name ≡ Some n → IsKnown columns name
@@ -64,7 +65,7 @@ number_known columns name n e =
     let lt = ltb-true (position_or_len test columns) (length columns) parts.0 in
     let within : n < length columns = subst (λ (m : ℕ). m < length columns) parts.1 lt in
     let column = at_number columns n within in
-    record { number = n; column = column.0; is_number = e; is_column = column.1 }
+    record { number = n; column = column.0; is_number = e; within = within; is_column = column.1 }
 
 known_by : (columns : List Column) (name : List ℕ) (rest : Names) (o : Option ℕ) → column_number columns name ≡ o
     → map (λ (it : List ℕ). UnknownColumn it) (cond (is_none o) (name ∷ rest) rest) ≡ [] → IsKnown columns name × (map (λ (it : List ℕ). UnknownColumn it) rest ≡ [])
@@ -74,6 +75,16 @@ known_by columns name rest (Some n) e h = (number_known columns name n e, h)
 pub known_first : (columns : List Column) (name : List ℕ) (names : Names) → unknown_among columns (name ∷ names) ≡ [] → IsKnown columns name × (unknown_among columns names ≡ [])
 known_first columns name names h =
     known_by columns name (filter (λ (it : List ℕ). is_none (column_number columns it)) names) (column_number columns name) refl h
+
+-- each name that is known is the number of a column
+pub names_within : (columns : List Column) (names : Names) → unknown_among columns names ≡ [] → (n : ℕ) → Contains (map (number_in columns) names) n → n < length columns
+names_within columns [] known n h = absurd (no_member n h)
+names_within columns (name ∷ names) known n h =
+    let first = known_first columns name names known in
+    elim (split_member (number_in columns name) (map (number_in columns) names) n h) [
+      | inl same ↦ subst (λ (m : ℕ). m < length columns) (sym (ap (λ (o : Option ℕ). unwrap_or o 0) first.0.is_number) ∙ same) first.0.within
+      | inr rest ↦ names_within columns names first.1 n rest
+    ]
 
 -- ---- tests
 

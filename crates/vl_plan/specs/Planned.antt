@@ -120,10 +120,24 @@ planned_on catalog n table (stmts.Update t assignments conditions) =
     })
 planned_on catalog n table (stmts.Delete t conditions) =
     plans.Delete (record { pred = pred_of catalog n table conditions; route = route_to catalog table conditions })
-planned_on catalog n table _ = plans.Begin
+-- the statements without a table are never asked for here, and each is its own plan
+planned_on catalog n table stmts.Begin = plans.Begin
+planned_on catalog n table stmts.StartTransaction = plans.Begin
+planned_on catalog n table stmts.Commit = plans.Commit
+planned_on catalog n table stmts.Rollback = plans.Rollback
+planned_on catalog n table (stmts.SetAutocommit on) = plans.SetAutocommit on
+planned_on catalog n table (stmts.SetNames charset) = plans.SetNames charset
+planned_on catalog n table (stmts.Use name) = plans.Use name
+planned_on catalog n table stmts.ShowTables = plans.ShowTables
+planned_on catalog n table stmts.ShowDatabases = plans.ShowDatabases
+planned_on catalog n table stmts.ShowWarnings = plans.ShowWarnings
+planned_on catalog n table stmts.SelectVersionComment = plans.SelectVersionComment
+planned_on catalog n table stmts.SelectDatabase = plans.SelectDatabase
 
 -- a statement without a table
 abbrev pub planned_besides : Stmt → Plan
+planned_besides stmts.Begin = plans.Begin
+planned_besides stmts.StartTransaction = plans.Begin
 planned_besides stmts.Commit = plans.Commit
 planned_besides stmts.Rollback = plans.Rollback
 planned_besides (stmts.SetAutocommit on) = plans.SetAutocommit on
@@ -134,7 +148,11 @@ planned_besides stmts.ShowDatabases = plans.ShowDatabases
 planned_besides stmts.ShowWarnings = plans.ShowWarnings
 planned_besides stmts.SelectVersionComment = plans.SelectVersionComment
 planned_besides stmts.SelectDatabase = plans.SelectDatabase
-planned_besides _ = plans.Begin
+-- the statements with a table are never asked for here: without one they have no plan, and what stands here is none
+planned_besides (stmts.Insert t names rows) = plans.Begin
+planned_besides (stmts.Select what t conditions orders limit lock) = plans.Begin
+planned_besides (stmts.Update t assignments conditions) = plans.Begin
+planned_besides (stmts.Delete t conditions) = plans.Begin
 
 -- the plan is this one
 abbrev pub IsPlanned : Catalog → Stmt → Plan → Type 0

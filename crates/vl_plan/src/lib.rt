@@ -1,9 +1,9 @@
-// The plan of a statement: its table, its values as the table's columns take them, and by which shards
-// it goes; or the first refusal.
-//
-// `plan` is a function of the catalog and the statement. The layer above relies on it: what is planned
-// breaks no rule of the catalog, its columns exist and its values fit them; what is refused is refused
-// for the first cause in the order of refusals.
+//! The plan of a statement: its table, its values as the table's columns take them, and by which shards
+//! it goes; or the first refusal.
+//!
+//! `plan` is a function of the catalog and the statement. The layer above relies on it: what is planned
+//! breaks no rule of the catalog, its columns exist and its values fit them; what is refused is refused
+//! for the first cause in the order of refusals.
 #![tactic(auto)]
 
 mod asks;

@@ -168,7 +168,8 @@ pub fn plan(alloc: Global, catalog: &Catalog, stmt: &Stmt) -> Result<Plan, Cause
     ensures refused { IfErr result (λ cause. IsFirst cause (refusals catalog.now stmt.now)) }
     // A plan comes where nothing refuses, and is that of the catalog and the statement.
     ensures planned { IfOk result (λ plan. (refusals catalog.now stmt.now ≡ []) × IsPlanned catalog.now stmt.now plan) }
-    // Its table and columns exist, its values fit them, and its rows have places.
+    // Its table and columns exist, its values fit them, its route is one of its tests, and its rows and their
+    // entries have places.
     ensures fits { IfOk result (Fits catalog.now) }
 {
     plan_of(alloc, catalog, stmt)

@@ -292,7 +292,7 @@ kept_carried LostAfter old new who act answer kept grouped (inr lost) = subst Is
 kept_commits : (old new : View) (who : Who) (told : Committed) → IsKept old → Commits old who told new → IsKept new
 kept_commits old new who outcome.Done kept h = subst IsKept (sym h) (kept_settled old who kept)
 kept_commits old new who (outcome.Lost why) kept h = absurd h
-kept_commits old new who outcome.Device kept h = subst IsKept (sym h) (kept_closed (downed_in who old) who (kept_downed_in old who kept))
+kept_commits old new who outcome.Device kept h = subst IsKept (sym h.1) (kept_closed (downed_in who old) who (kept_downed_in old who kept))
 
 kept_commit_uses : (loss : Option LostWhy) (old new : View) (who : Who) (told : Committed) → IsKept old → CommitUses loss old who told new → IsKept new
 kept_commit_uses None old new who told kept h = kept_commits old new who told kept h

@@ -126,7 +126,7 @@ ends_later old new incarnation h k = subst (λ (n : ℕ). old.incarnation ≤ n)
 later_commits : (old new : View) (who : Who) (told : Committed) → Commits old who told new → old.incarnation ≤ new.incarnation
 later_commits old new who outcome.Done h = from_same old.incarnation new.incarnation (ap (λ (v : View). v.incarnation) h)
 later_commits old new who (outcome.Lost why) h = absurd h
-later_commits old new who outcome.Device h = ends_later old new (old.incarnation + 1) (omega (arith)) (ap (λ (v : View). v.incarnation) h)
+later_commits old new who outcome.Device h = ends_later old new (old.incarnation + 1) (omega (arith)) (ap (λ (v : View). v.incarnation) h.1)
 
 later_commit_uses : (loss : Option LostWhy) (old new : View) (who : Who) (told : Committed) → CommitUses loss old who told new → old.incarnation ≤ new.incarnation
 later_commit_uses None old new who told h = later_commits old new who told h

@@ -8,3 +8,4 @@ pub mod Served
 pub mod Leaving
 pub mod Enlisting
 pub mod Answered
+pub mod Causes

@@ -233,7 +233,7 @@ placed_closed catalog shard old new who placed h = along catalog shard _ new h (
 placed_commits : (catalog : Catalog) (shard : ℕ) (old new : View) (who : Who) (told : Committed) → ArePlaced catalog shard old → Commits old who told new → ArePlaced catalog shard new
 placed_commits catalog shard old new who outcome.Done placed h = along catalog shard _ new h (placed_settled catalog shard old who placed)
 placed_commits catalog shard old new who (outcome.Lost why) placed h = absurd h
-placed_commits catalog shard old new who outcome.Device placed h = along catalog shard _ new h (placed_dropped catalog shard (downed_in who old) who (placed_downed_in catalog shard old who placed))
+placed_commits catalog shard old new who outcome.Device placed h = along catalog shard _ new h.1 (placed_dropped catalog shard (downed_in who old) who (placed_downed_in catalog shard old who placed))
 
 placed_commit_uses : (catalog : Catalog) (shard : ℕ) (loss : Option LostWhy) (old new : View) (who : Who) (told : Committed) → ArePlaced catalog shard old → CommitUses loss old who told new → ArePlaced catalog shard new
 placed_commit_uses catalog shard None old new who told placed h = placed_commits catalog shard old new who told placed h

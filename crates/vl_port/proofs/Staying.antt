@@ -170,7 +170,7 @@ module _ (old new : View) (who other : Who) (key : Key) (kept : IsKept old) (hel
   stays_commits : (told : Committed) → Commits old other told new → WentDown old new ⊎ Stays old new key
   stays_commits outcome.Done h = inr (along old _ new key h (stays_settled old who other key held apart kept))
   stays_commits (outcome.Lost why) h = absurd h
-  stays_commits outcome.Device h = inl (subst (λ (v : View). WentDown old v) (sym h) (omega (arith)))
+  stays_commits outcome.Device h = inl (subst (λ (v : View). WentDown old v) (sym h.1) (omega (arith)))
 
   stays_commit_uses : (loss : Option LostWhy) (told : Committed) → CommitUses loss old other told new → WentDown old new ⊎ Stays old new key
   stays_commit_uses None told h = stays_commits told h

@@ -95,7 +95,7 @@ stranger_closed old new who other apart h = ap (λ (v : View). v.sessions other)
 stranger_commits : (old new : View) (who other : Who) (told : Committed) → is_who who other ≡ false → Commits old who told new → new.sessions other ≡ old.sessions other
 stranger_commits old new who other outcome.Done apart h = ap (λ (v : View). v.sessions other) h ∙ ended_other old who other apart
 stranger_commits old new who other (outcome.Lost why) apart h = absurd h
-stranger_commits old new who other outcome.Device apart h = ap (λ (v : View). v.sessions other) h ∙ ended_other old who other apart
+stranger_commits old new who other outcome.Device apart h = ap (λ (v : View). v.sessions other) h.1 ∙ ended_other old who other apart
 
 stranger_commit_uses : (loss : Option LostWhy) (old new : View) (who other : Who) (told : Committed) → is_who who other ≡ false → CommitUses loss old who told new → new.sessions other ≡ old.sessions other
 stranger_commit_uses None old new who other told apart h = stranger_commits old new who other told apart h

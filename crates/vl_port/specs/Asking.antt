@@ -6,10 +6,13 @@ use Rattle.vl_port.specs.declared.answer.Answer.{Answer}
 use Rattle.vl_port.specs.declared.answer.Answer.TheVariants.{Done, Unchanged, Rows, Found, Held, Lost, Device, Limit, Memory}
 use Rattle.vl_port.specs.declared.asked.Asked.{Asked}
 use Rattle.vl_port.specs.declared.asked.Asked.TheVariants.{Unlisted, Answered}
+use Rattle.vl_port.specs.declared.fate.Fate.TheVariants as fates
+use Rattle.vl_port.specs.declared.opened.Opened.{Opened}
 use Rattle.vl_port.specs.declared.tx_state.TxState.{TxState}
 use Rattle.vl_port.specs.declared.who.Who.{Who}
 use Rattle.vl_port.specs.Calls.{HasActed, PortView}
 use Rattle.vl_port.specs.Transaction.{Enlists, session_of}
+use Rattle.vl_port.specs.View.{View}
 
 -- a write of the transaction was done
 abbrev pub with_change : TxState → TxState
@@ -45,6 +48,11 @@ pub record IsUnasked (old : PortView) (tx tx_new : TxState) (new : PortView) : T
 abbrev pub HasAsked : PortView → TxState → Group → ℕ → Act → Asked → TxState → PortView → Type 0
 HasAsked old tx group shard act Unlisted tx_new new = IsUnasked old tx tx_new new
 HasAsked old tx group shard act (Answered answer) tx_new new = HasAnswered old tx group shard act answer tx_new new
+
+-- the session isn't one that was cut: a use of one that was is told so again, though nothing is lost then. One is
+-- cut only where a call answers that the link lost it or that the device failed
+abbrev pub IsUncut : View → Who → Type 0
+IsUncut view who = (session : Opened) → view.sessions who ≡ Some session → session.fate ≡ fates.Cut → ⊥
 
 -- a read without locks goes by the transaction's session where one is listed, and else without a group
 abbrev pub reader_in : TxState → Group → Bool → Who

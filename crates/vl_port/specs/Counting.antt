@@ -1,5 +1,5 @@
 -- Faults of the outside: each is told only where its count rose in that call.
-use Rattle.std.specs.Prelude.{◌≡◌, ◌≢◌, ◌≤◌, ℕ}
+use Rattle.std.specs.Prelude.{◌≡◌, ◌≢◌, ◌≤◌, ◌⊎◌, ℕ}
 use Rattle.vl_base.specs.Faults.{Rose}
 use Rattle.vl_port.specs.declared.answer.Answer.{Answer}
 use Rattle.vl_port.specs.declared.answer.Answer.TheVariants.{Done, Unchanged, Rows, Found, Held, Lost, Device, Limit, Memory}
@@ -30,9 +30,10 @@ pub record DiskRose (old : Faults) (shard : ℕ) (new : Faults) : Type 0 where
   pub disks : Rose (old.disks shard) (new.disks shard)
   pub others : (other : ℕ) → other ≢ shard → new.disks other ≡ old.disks other
 
--- of an act that the link passed on
+-- of an act that the link passed on. A shard that is down can't be opened where its disks fail, or where
+-- what they hold is no shard's
 abbrev pub IsDiskCounted : Faults → ℕ → Answer → Faults → Type 0
-IsDiskCounted old shard Device new = DiskRose old shard new
+IsDiskCounted old shard Device new = DiskRose old shard new ⊎ (new ≡ old)
 IsDiskCounted old shard Done new = new ≡ old
 IsDiskCounted old shard Unchanged new = new ≡ old
 IsDiskCounted old shard (Rows rows) new = new ≡ old

@@ -6,6 +6,7 @@ pub mod Counting
 pub mod Holding
 pub mod Keeping
 pub mod Life
+pub mod Limiting
 pub mod Losses
 pub mod Others
 pub mod Placing

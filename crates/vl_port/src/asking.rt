@@ -1,11 +1,15 @@
 ghost use Rattle.std.specs.Prelude.{◌≡◌, ◌↔◌, ◌<◌, ◌≤◌, Bool, false, Contains, IsTrue};
-ghost use Rattle.vl_port.specs.Asking.{HasAsked, IsSameTx, Lists, reader_in};
+ghost use Rattle.vl_base.specs.Faults.{Rose};
+ghost use Rattle.vl_values.specs.declared.lost_why.LostWhy.TheVariants as why;
+ghost use Rattle.vl_port.specs.declared.answer.Answer.TheVariants as answers;
+ghost use Rattle.vl_port.specs.declared.asked.Asked.TheVariants as asks;
+ghost use Rattle.vl_port.specs.Asking.{HasAsked, IsSameTx, IsUncut, Lists, reader_in};
 ghost use Rattle.vl_port.specs.Calls.{HasActed, IsSamePort};
 ghost use Rattle.vl_port.specs.Others.{LeavesOthers};
 ghost use Rattle.vl_port.specs.Placing.{IsActOn};
 ghost use Rattle.vl_port.specs.Serving.{Serves};
 ghost use Rattle.vl_port.specs.Taking.{takes_keys};
-ghost use Rattle.vl_port.specs.Transaction.{Enlists, IsIn, last_tx, listed};
+ghost use Rattle.vl_port.specs.Transaction.{Enlists, IsIn, last_tx, listed, session_of};
 ghost use Rattle.vl_port.specs.declared.tx_state.TxState.{TxState as ATxState};
 
 use crate::act::Act;
@@ -70,6 +74,9 @@ pub fn ask<P: ShardPort>(
     ensures asked { HasAsked (P.told port.old) tx.old group shard act.now result tx.new (P.told port.new) }
     ensures port { IsSamePort (P.catalog port.old) (P.count port.old) (P.catalog port.new) (P.count port.new) }
 
+    // A loss by the link is told only where the link's count rose in this call, of a session that wasn't cut.
+    ensures cause { IsUncut ((P.told port.old).shards shard) (session_of tx.old group) → result ≡ asks.Answered (answers.Lost why.Link) → Rose (P.told port.old).faults.link (P.told port.new).faults.link }
+
     // What the next call asks for.
     ensures tx { IsSameTx tx.old tx.new }
     ensures sessions { IsIn tx.old (P.count port.old) (P.told port.old).shards → IsIn tx.new (P.count port.new) (P.told port.new).shards }
@@ -95,6 +102,7 @@ pub fn look<P: ShardPort>(
     requires fits { IsActOn (P.catalog port.old) shard act.now }
     ensures acts { (there : Bool) × (IsTrue there ↔ Contains (listed tx.now group) shard) × HasActed (P.told port.old) (reader_in tx.now group there) shard act.now result (P.told port.new) }
     ensures port { IsSamePort (P.catalog port.old) (P.count port.old) (P.catalog port.new) (P.count port.new) }
+    ensures cause { ((there : Bool) → IsUncut ((P.told port.old).shards shard) (reader_in tx.now group there)) → result ≡ answers.Lost why.Link → Rose (P.told port.old).faults.link (P.told port.new).faults.link }
 
     // What the next call asks for.
     ensures sessions { IsIn tx.now (P.count port.old) (P.told port.old).shards → IsIn tx.now (P.count port.new) (P.told port.new).shards }

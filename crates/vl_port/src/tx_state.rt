@@ -1,7 +1,9 @@
 ghost use Rattle.std.specs.Prelude.{◌≡◌, ◌≤◌, ◌↔◌, ◌++◌, ◌∷◌, ℕ, Bool, [], List, IsTrue, IfOk, OnErr, Contains};
 ghost use Rattle.vl_port.specs.Asking.{reader_in, with_change};
+ghost use Rattle.vl_port.specs.Limiting.{is_full};
 ghost use Rattle.vl_port.specs.Transaction.{Enlists, listed, session_of, with_session};
 
+use crate::act::Act;
 use crate::claimed::Claimed;
 use crate::limits::Limits;
 use crate::shard_list::ShardList;
@@ -94,6 +96,16 @@ impl TxState {
         ensures more { self.old.changes ≤ self.new.changes }
     {
         self.changes = self.changes.saturating_add(1);
+    }
+
+    /// Whether the act is a write that would pass the limit of changes.
+    pub fn is_full(&self, act: &Act) -> bool
+        ensures { result ≡ is_full self.now act.now }
+    {
+        match act {
+            Act::Find { .. } => false,
+            _ => self.changes >= self.limits.changes,
+        }
     }
 
     /// The shards of the group's sessions, in the order of first use.

@@ -1,4 +1,4 @@
-ghost use Rattle.std.specs.Prelude.{◌≡◌, ℕ, List, [], IsTrue, IfOk, IfSome, IfNone, map, position, length, Some, ◌<◌, true, false};
+ghost use Rattle.std.specs.Prelude.{◌≡◌, ℕ, List, [], IsTrue, IfOk, OnErr, IfSome, IfNone, map, position, length, Some, None, ◌<◌, true, false};
 ghost use Rattle.std.specs.Option.{is_some};
 ghost use Rattle.vl_port.specs.declared.who.Who.{Who as AWho};
 ghost use Rattle.vl_port.specs.Life.{lives_in, loss_in, why_lost};
@@ -80,6 +80,7 @@ impl Seats {
     /// The number of a session: its own where it is open, else that of a free seat. Nobody sits down.
     pub fn reserve(&mut self, who: &Who) -> Result<ConnNo, AllocError>
         ensures place { IfOk result (IsPlaceFor self.new who.now) }
+        ensures absent { OnErr result (session_of self.old who.now ≡ None) }
         ensures same { SameSeats self.old self.new }
     {
         if let Some(conn) = self.find(who) {

@@ -221,6 +221,7 @@ impl Shard {
     // Makes room for a session.
     fn reserve_seat(&mut self, who: &Who) -> Result<ConnNo, AllocError>
         ensures place { IfOk result (IsPlaceFor self.new.seats who.now) }
+        ensures absent { OnErr result ((view_of self.old).sessions who.now ≡ None) }
         ensures same { IsUnseen self.old self.new }
         ensures whole { IsWhole self.new }
     {
@@ -489,6 +490,7 @@ impl Shard {
     fn open(&mut self, who: &Who) -> Result<(), AllocError>
         ensures ok { OnOk result (view_of self.new ≡ opened who.now (view_of self.old)) }
         ensures err { OnErr result (view_of self.new ≡ view_of self.old) }
+        ensures absent { OnErr result ((has_group who.now.group ≡ true) × ((view_of self.old).sessions who.now ≡ None)) }
         ensures same { self.new.incarnation ≡ self.old.incarnation }
     {
         if has_group(who) {

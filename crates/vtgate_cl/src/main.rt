@@ -1,11 +1,11 @@
-// The program. `vtgate_cl script` reads a script from standard input and writes the answer of each of its
-// lines to standard output; `vtgate_cl check --catalog F` writes what a catalog has, or why it is refused.
-//
-// `batch` is all that the program does, over files, a source and a sink of bytes, and its contract is the
-// program's promise: what is printed of a script is what ONE table with its unique keys answers to the lines,
-// in order, up to where the status says that it ends; what is printed of a catalog is the report of what its
-// files mean, or their first fault. `main` makes the real files, source and sink and ends with the status.
-// Where the words ask for the help of a command it prints that, too, with the status of words that aren't accepted.
+//! The program. `vtgate_cl script` reads a script from standard input and writes the answer of each of its
+//! lines to standard output; `vtgate_cl check --catalog F` writes what a catalog has, or why it is refused.
+//!
+//! `batch` is all that the program does, over files, a source and a sink of bytes, and its contract is the
+//! program's promise: what is printed of a script is what ONE table with its unique keys answers to the lines,
+//! in order, up to where the status says that it ends; what is printed of a catalog is the report of what its
+//! files mean, or their first fault. `main` makes the real files, source and sink and ends with the status.
+//! Where the words ask for the help of a command it prints that, too, with the status of words that aren't accepted.
 #![tactic(auto)]
 
 ghost use Rattle.std.specs.Prelude.{◌≡◌};

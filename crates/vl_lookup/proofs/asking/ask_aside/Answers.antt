@@ -1,6 +1,6 @@
 use Rattle.vl_lookup.proofs.Asides.{asked_with}
 use Rattle.vl_lookup.proofs.Answered.{check_answer}
-use Rattle.vl_lookup.proofs.Homes.{shards_within}
+use Rattle.vl_route.proofs.Homes.{shards_within}
 use Rattle.vl_lookup.proofs.Matching.{matched}
 use Rattle.vl_lookup.proofs.Rows.{entry_fits}
 use Rattle.vl_lookup.proofs.asking.ask_aside.Goals as goal

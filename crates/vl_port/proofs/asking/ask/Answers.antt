@@ -1,6 +1,7 @@
 use Rattle.std.proofs.Common.{ℕ, sym, subst}
 use Rattle.vl_port.specs.Transaction.{IsIn}
 use Rattle.vl_port.proofs.Answered.{asked_in, asked_others, asked_same, asked_serves}
+use Rattle.vl_port.proofs.Causes.{asked_cause}
 use Rattle.vl_port.proofs.Served.{serves_same}
 use Rattle.vl_port.proofs.asking.ask.Goals as goal
 
@@ -25,3 +26,7 @@ pub returns-clause-others : goal.returns-clause-others
 returns-clause-others g c = λ serves.
     asked_others (g.P.ShardPort.catalog c.args.port.now) c.args.tx.now c.asked.new.tx (g.P.ShardPort.count c.args.port.now) c.args.group c.args.shard c.args.act.now (g.P.ShardPort.told c.args.port.now)
     (g.P.ShardPort.told c.asked.new.port) c.asked.result c.requires.shard c.asked.ensures.asked serves
+
+pub returns-clause-cause : goal.returns-clause-cause
+returns-clause-cause g c = λ uncut is.
+    asked_cause (g.P.ShardPort.told c.args.port.now) (g.P.ShardPort.told c.asked.new.port) c.args.tx.now c.asked.new.tx c.args.group c.args.shard c.args.act.now c.asked.result c.asked.ensures.asked uncut is

@@ -2,6 +2,7 @@ use Rattle.std.proofs.Common.{sym, ◌∙◌, ap, refl, subst}
 use Rattle.std.specs.Option.{option_copied}
 use Rattle.vl_catalog.specs.declared.catalog.Catalog.{Catalog}
 use Rattle.vl_port.specs.Placing.{IsActOn}
+use Rattle.vl_exec.specs.Answering.{refused}
 use Rattle.vl_exec.specs.Progress.{due}
 use Rattle.vl_exec.proofs.Asking.{asked_fits, did_at, done_within, full_now, no_room_at, unchanged_never}
 use Rattle.vl_exec.proofs.Dues.{due_at}
@@ -9,8 +10,8 @@ use Rattle.vl_exec.proofs.program.Program.advance.Goals as goal
 
 pub returns-then-is_full-clause-stepped : goal.returns-then-is_full-clause-stepped
 returns-then-is_full-clause-stepped g c =
-    full_now c.args.catalog.now c.args.self.now c.args.self.now c.args.tx.now c.args.tx.now (g.P.ShardPort.told c.args.port.now) (g.P.ShardPort.told c.args.port.now) c.refused_full.result c.in-Some.group c.in-Some.shard c.in-Some-due_act.act.now
-    (due_at (due c.args.self.now) c.in-Some.group c.in-Some.shard c.in-Some-due_act.act.now (sym c.due_session.ensures ∙ c.in-Some.is) (sym c.due_act.ensures ∙ ap option_copied c.in-Some-due_act.is)) (sym c.is_full.ensures ∙ c.if-is_full.true) c.refused_full.ensures refl refl
+    full_now c.args.catalog.now c.args.self.now c.args.self.now c.args.tx.now c.args.tx.now (g.P.ShardPort.told c.args.port.now) (g.P.ShardPort.told c.args.port.now) c.refused.result c.in-Some.group c.in-Some.shard c.in-Some-due_act.act.now
+    (due_at (due c.args.self.now) c.in-Some.group c.in-Some.shard c.in-Some-due_act.act.now (sym c.due_session.ensures ∙ c.in-Some.is) (sym c.due_act.ensures ∙ ap option_copied c.in-Some-due_act.is)) (sym c.is_full.ensures ∙ c.if-is_full.true) (c.refused.ensures ∙ ap (refused c.args.tx.now c.args.self.now) c.limit_of_changes.ensures) refl refl
 
 pub ask-asked-requires-clause-shard : goal.ask-asked-requires-clause-shard
 ask-asked-requires-clause-shard g c =
@@ -40,5 +41,5 @@ returns-in-Answered-clause-stepped g c =
 
 pub returns-in-Unlisted-clause-stepped : goal.returns-in-Unlisted-clause-stepped
 returns-in-Unlisted-clause-stepped g c =
-    no_room_at c.args.catalog.now c.args.self.now c.args.self.now c.args.tx.now c.ask-asked.new.tx (g.P.ShardPort.told c.args.port.now) (g.P.ShardPort.told c.ask-asked.new.port) c.refused.result c.in-Some.group c.in-Some.shard c.in-Some-due_act.act.now
-    (due_at (due c.args.self.now) c.in-Some.group c.in-Some.shard c.in-Some-due_act.act.now (sym c.due_session.ensures ∙ c.in-Some.is) (sym c.due_act.ensures ∙ ap option_copied c.in-Some-due_act.is)) (sym c.is_full.ensures ∙ c.if-is_full.false) c.in-Unlisted.ensures.asked c.refused.ensures
+    no_room_at c.args.catalog.now c.args.self.now c.args.self.now c.args.tx.now c.ask-asked.new.tx (g.P.ShardPort.told c.args.port.now) (g.P.ShardPort.told c.ask-asked.new.port) c.refused-in-Unlisted.result c.in-Some.group c.in-Some.shard c.in-Some-due_act.act.now
+    (due_at (due c.args.self.now) c.in-Some.group c.in-Some.shard c.in-Some-due_act.act.now (sym c.due_session.ensures ∙ c.in-Some.is) (sym c.due_act.ensures ∙ ap option_copied c.in-Some-due_act.is)) (sym c.is_full.ensures ∙ c.if-is_full.false) c.in-Unlisted.ensures.asked c.refused-in-Unlisted.ensures

@@ -2,7 +2,8 @@ use Rattle.std.proofs.Common.{List, length, sym, subst, ◌∙◌}
 use Rattle.vl_vindex.specs.KeyRange.{Range}
 use Rattle.vl_catalog.specs.Place.{shard_count}
 use Rattle.vl_exec.specs.Making.{IsMade}
-use Rattle.vl_exec.proofs.Beginning.{AreCovering, begun_laid, begun_made}
+use Rattle.vl_route.proofs.Homes.{AreCovering}
+use Rattle.vl_exec.proofs.Beginning.{begun_laid, begun_made}
 use Rattle.vl_exec.proofs.program.Program.start.Goals as goal
 
 pub returns-in-Ok-clause-made : goal.returns-in-Ok-clause-made

@@ -1,0 +1,13 @@
+pub mod Calls
+pub mod Content
+pub mod ContentInside
+pub mod DiskView
+pub mod FileDisk
+pub mod Images
+pub mod MemoryDisk
+pub mod MemoryDiskInside
+pub mod Moment
+pub mod Past
+pub mod PastInside
+pub mod Sides
+pub mod Slots

@@ -1,0 +1,7 @@
+/// How a device call goes.
+#[derive(Clone, Copy, Debug)]
+pub(crate) enum Verdict {
+    Passes,
+    Fails,
+    Crashes,
+}

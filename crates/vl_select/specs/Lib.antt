@@ -1,0 +1,10 @@
+pub mod Answering
+pub mod Begun
+pub mod Columns
+pub mod Making
+pub mod Picking
+pub mod Progress
+pub mod Results
+pub mod Sorting
+pub mod Stepping
+pub mod Tallies
