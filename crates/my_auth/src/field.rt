@@ -41,6 +41,7 @@ impl Field {
         bytes
     }
 
+    /// The bytes of the field.
     pub fn as_slice(&self) -> &[u8]
         ensures { result.now ≡ self.now }
     {

@@ -29,6 +29,7 @@ impl Users {
         Users { users }
     }
 
+    /// The users, in the order of the file.
     pub fn as_slice(&self) -> &[User]
         ensures { result.now ≡ self.now }
     {

@@ -33,6 +33,7 @@ impl Packets {
         self.packets
     }
 
+    /// The packets, in the order in which they came.
     pub fn as_slice(&self) -> &[Packet]
         ensures { result.now ≡ self.now }
     {

@@ -31,6 +31,7 @@ impl Payload {
         self.bytes
     }
 
+    /// The bytes of the payload.
     pub fn as_slice(&self) -> &[u8]
         ensures { result.now ≡ self.now }
     {

@@ -33,6 +33,7 @@ impl ShortBuf {
         })
     }
 
+    /// The bytes that were put in so far.
     pub fn as_slice(&self) -> &[u8]
         ensures { result.now ≡ self.now }
     {

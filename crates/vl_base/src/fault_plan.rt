@@ -22,6 +22,7 @@ impl Model for FaultPlan {
 }
 
 impl FaultPlan {
+    /// The calls of these numbers fail, the first call being 1. No call was made yet.
     pub fn new(failing: Vec<u64>) -> Self
         ensures { result ≡ record { failing = failing.items; calls = 0; faults = 0 } }
     {

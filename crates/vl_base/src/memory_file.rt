@@ -18,18 +18,21 @@ impl Model for MemoryFile {
 impl MemoryFile {
     ghost use Rattle.std.specs.Prelude.{◌≡◌};
 
+    /// A file of this name with these bytes.
     pub fn new(name: Vec<u8>, bytes: Vec<u8>) -> MemoryFile
         ensures { result ≡ record { name = name.items; bytes = bytes.items } }
     {
         MemoryFile { name, bytes }
     }
 
+    /// Its name.
     pub fn name(&self) -> &[u8]
         ensures { result.now ≡ self.now.name }
     {
         self.name.as_slice()
     }
 
+    /// Its bytes.
     pub fn bytes(&self) -> &[u8]
         ensures { result.now ≡ self.now.bytes }
     {

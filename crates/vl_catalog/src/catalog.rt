@@ -46,6 +46,7 @@ impl Catalog {
         catalog_a(alloc)
     }
 
+    /// A copy. `AllocError` where memory was refused.
     pub fn copy(&self, alloc: Global) -> Result<Catalog, AllocError>
         ensures { IfOk result (λ catalog. catalog ≡ self.now) }
     {

@@ -32,6 +32,7 @@ impl Ksid {
         Ksid { bytes, len: 16 }
     }
 
+    /// The bytes of the keyspace id.
     pub fn as_slice(&self) -> &[u8]
         ensures value { result.now ≡ self.now }
         ensures within { length self.now ≤ 16 }

@@ -1,9 +1,9 @@
-// The catalog: keyspaces with their rings, tables, and the lookups between them.
-//
-// `Catalog::build` turns what the catalog's files say into numbers: tables and lookups know one
-// another by their places in the catalog, and a name that stands for nothing has no number. The layer
-// above relies on that, on `place`, which says on which shard a row stands, and on `after`, which says
-// what the parts of a journal leave of a key. `Catalog::a` is the built-in catalog.
+//! The catalog: keyspaces with their rings, tables, and the lookups between them.
+//!
+//! `Catalog::build` turns what the catalog's files say into numbers: tables and lookups know one
+//! another by their places in the catalog, and a name that stands for nothing has no number. The layer
+//! above relies on that, on `place`, which says on which shard a row stands, and on `after`, which says
+//! what the parts of a journal leave of a key. `Catalog::a` is the built-in catalog.
 #![tactic(auto)]
 
 mod bare_table;

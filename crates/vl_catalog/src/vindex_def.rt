@@ -9,6 +9,7 @@ pub struct VindexDef {
     pub kind: VindexKind,
 }
 
+/// Which function gives the keyspace id of a value.
 #[derive(Drop)]
 pub enum VindexKind {
     Primary(Vindex),

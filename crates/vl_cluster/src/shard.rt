@@ -23,6 +23,7 @@ impl Model for Shard {
 impl Shard {
     ghost use Rattle.vl_cluster.specs.Lists.{Lists};
 
+    /// A shard with no row and no entry.
     pub fn new(alloc: Global) -> Shard
         ensures rows { result.rows ≡ [] }
         ensures entries { result.entries ≡ [] }
@@ -33,6 +34,7 @@ impl Shard {
         }
     }
 
+    /// Adds a row behind the others.
     pub fn push_row(&mut self, row: Line) -> Result<(), AllocError>
         ensures ok { OnOk result (self.new ≡ record self.old { rows = self.old.rows ++ row ∷ [] }) }
         ensures err { OnErr result (self.new ≡ self.old) }
@@ -41,6 +43,7 @@ impl Shard {
         Ok(())
     }
 
+    /// Adds an entry of the lookup behind the others.
     pub fn push_entry(&mut self, entry: Entry) -> Result<(), AllocError>
         ensures ok { OnOk result (self.new ≡ record self.old { entries = self.old.entries ++ entry ∷ [] }) }
         ensures err { OnErr result (self.new ≡ self.old) }

@@ -28,12 +28,14 @@ impl Told {
         self.session.at
     }
 
+    /// The session that was answered.
     pub fn session(&self) -> u32
         ensures { result ≡ self.now.0.number }
     {
         self.session.number
     }
 
+    /// What it was answered.
     pub fn what(&self) -> &What
         ensures { result.now ≡ self.now.1 }
     {

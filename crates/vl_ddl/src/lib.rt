@@ -1,9 +1,9 @@
-// The schema file of a keyspace: a list of CREATE TABLE statements, and the tables that they define.
-//
-// `read_schema` answers the tables that a file defines, in order, or the place of the first token
-// with which no schema file goes on. It tells a fault of syntax from what a wider language has at
-// that place: another type, another default, UNIQUE or FOREIGN. The layer above relies on the
-// grammar, on what a statement means, and on the list of what each table ignores.
+//! The schema file of a keyspace: a list of CREATE TABLE statements, and the tables that they define.
+//!
+//! `read_schema` answers the tables that a file defines, in order, or the place of the first token
+//! with which no schema file goes on. It tells a fault of syntax from what a wider language has at
+//! that place: another type, another default, UNIQUE or FOREIGN. The layer above relies on the
+//! grammar, on what a statement means, and on the list of what each table ignores.
 #![tactic(auto)]
 
 mod column_options;

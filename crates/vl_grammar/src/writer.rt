@@ -155,6 +155,7 @@ fn push_space(text: &mut Vec<u8>, unspaced: bool) -> Result<(), AllocError>
 }
 
 impl Writer {
+    /// A writer that has written nothing.
     pub fn new(alloc: Global) -> Writer
         ensures { result ≡ record { text = []; unspaced = true } }
     {
@@ -172,6 +173,7 @@ impl Writer {
         Bytes::from_vec(text)
     }
 
+    /// Writes a keyword.
     #[tactic(auto, unfolding(crate::specs::Layout::added))]
     pub fn key(&mut self, keyword: &[u8]) -> Result<(), AllocError>
         ensures { OnOk result (self.new ≡ added self.old (Item.Key keyword.now ∷ [])) }
@@ -182,6 +184,7 @@ impl Writer {
         Ok(())
     }
 
+    /// Writes a name, in backquotes where it needs them.
     #[tactic(auto, unfolding(crate::specs::Layout::added))]
     pub fn name(&mut self, name: &[u8]) -> Result<(), AllocError>
         ensures { OnOk result (self.new ≡ added self.old (Item.Name name.now ∷ [])) }
@@ -192,6 +195,7 @@ impl Writer {
         Ok(())
     }
 
+    /// Writes a literal: NULL, a number or a text.
     #[tactic(auto, unfolding(crate::specs::Layout::added))]
     pub fn literal(&mut self, alloc: Global, value: &Value) -> Result<(), AllocError>
         ensures { OnOk result (self.new ≡ added self.old (Item.Literal value.now ∷ [])) }
@@ -202,6 +206,7 @@ impl Writer {
         Ok(())
     }
 
+    /// Writes a mark of one byte.
     #[tactic(auto, unfolding(crate::specs::Layout::added))]
     pub fn sign(&mut self, mark: u8) -> Result<(), AllocError>
         ensures { OnOk result (self.new ≡ added self.old (Item.Sign mark ∷ [])) }
@@ -213,6 +218,7 @@ impl Writer {
         Ok(())
     }
 
+    /// Writes a number in decimal.
     #[tactic(auto, unfolding(crate::specs::Layout::added))]
     pub fn count(&mut self, alloc: Global, n: u64) -> Result<(), AllocError>
         ensures { OnOk result (self.new ≡ added self.old (Item.Count n ∷ [])) }
@@ -224,6 +230,7 @@ impl Writer {
         Ok(())
     }
 
+    /// Writes these digits.
     #[tactic(auto, unfolding(crate::specs::Layout::added))]
     pub fn digits(&mut self, digits: &[u8]) -> Result<(), AllocError>
         ensures { OnOk result (self.new ≡ added self.old (Item.Digits digits.now ∷ [])) }
@@ -234,6 +241,7 @@ impl Writer {
         Ok(())
     }
 
+    /// Writes `@@` and the name of a variable.
     #[tactic(auto, unfolding(crate::specs::Layout::added))]
     pub fn variable(&mut self, name: &[u8]) -> Result<(), AllocError>
         ensures { OnOk result (self.new ≡ added self.old (Item.Variable name.now ∷ [])) }
@@ -245,6 +253,7 @@ impl Writer {
         Ok(())
     }
 
+    /// Writes the name of a character set in quotes.
     #[tactic(auto, unfolding(crate::specs::Layout::added))]
     pub fn charset(&mut self, name: &[u8]) -> Result<(), AllocError>
         ensures { OnOk result (self.new ≡ added self.old (Item.Charset name.now ∷ [])) }

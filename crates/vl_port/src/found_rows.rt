@@ -21,12 +21,14 @@ impl Model for FoundRows {
 impl FoundRows {
     ghost use Rattle.std.specs.Prelude.{◌≡◌};
 
+    /// These rows, moved.
     pub fn from_vec(rows: Vec<(Key, Row)>) -> FoundRows
         ensures { result ≡ rows.items }
     {
         FoundRows { rows }
     }
 
+    /// The rows, moved out.
     pub fn into_vec(self) -> Vec<(Key, Row)>
         ensures { result.items ≡ self }
     {
@@ -34,6 +36,7 @@ impl FoundRows {
         rows
     }
 
+    /// The rows, with their keys.
     pub fn as_slice(&self) -> &[(Key, Row)]
         ensures { result.now ≡ self.now }
     {

@@ -37,18 +37,21 @@ impl ShardList {
         self.shards.len() as u32
     }
 
+    /// Whether no shard is listed.
     pub fn is_empty(&self) -> bool
         ensures { IsTrue result ↔ (self.now ≡ []) }
     {
         self.shards.is_empty()
     }
 
+    /// The shards, ascending.
     pub fn as_slice(&self) -> &[ShardNo]
         ensures { result.now ≡ self.now }
     {
         self.shards.as_slice()
     }
 
+    /// Whether this shard is listed.
     pub fn contains(&self, shard: ShardNo) -> bool
         ensures { IsTrue result ↔ Contains self.now shard }
     {

@@ -19,12 +19,14 @@ fn abandon_entry(entry: &mut (Key, Slot), conn: ConnNo)
     entry.1.abandon(conn);
 }
 
+/// Makes the row the pending version of the connection; None is a row that is removed.
 pub fn write_entry(entry: &mut (Key, Slot), row: Option<Row>, conn: ConnNo)
     ensures { entry.new ≡ written_in conn row entry.old }
 {
     entry.1.write(row, conn);
 }
 
+/// Commits each pending version of the connection.
 pub fn settle_all(slots: &mut [(Key, Slot)], conn: ConnNo)
     ensures { slots.new ≡ map (settled_in conn) slots.old }
 {
@@ -33,6 +35,7 @@ pub fn settle_all(slots: &mut [(Key, Slot)], conn: ConnNo)
     }
 }
 
+/// Drops each pending version of the connection.
 pub fn abandon_all(slots: &mut [(Key, Slot)], conn: ConnNo)
     ensures { slots.new ≡ map (abandoned_in conn) slots.old }
 {

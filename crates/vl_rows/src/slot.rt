@@ -15,6 +15,7 @@ pub struct Slot {
 }
 
 impl Slot {
+    /// A slot with neither version.
     pub fn empty() -> Slot
         ensures { result ≡ empty_slot }
     {
@@ -24,6 +25,7 @@ impl Slot {
         }
     }
 
+    /// Whether it has neither version.
     pub fn is_empty(&self) -> bool
         ensures { result ≡ is_empty_slot self.now }
     {

@@ -1,9 +1,9 @@
-// SQL: what the statements of the router are, how a text is read as one, and how one is printed.
-//
-// A statement is plain data with its parts as fields. `parse` answers the one statement that a text
-// is, or the place of the first token that no statement continues; `print` writes a statement in
-// one layout, which `parse` reads as the same statement. The layer above relies on both, and on
-// each list being within its limit and no name standing twice where the grammar forbids it.
+//! SQL: what the statements of the router are, how a text is read as one, and how one is printed.
+//!
+//! A statement is plain data with its parts as fields. `parse` answers the one statement that a text
+//! is, or the place of the first token that no statement continues; `print` writes a statement in
+//! one layout, which `parse` reads as the same statement. The layer above relies on both, and on
+//! each list being within its limit and no name standing twice where the grammar forbids it.
 #![tactic(auto)]
 
 pub mod assignment;

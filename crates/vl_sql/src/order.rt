@@ -1,5 +1,6 @@
 use vl_values::bytes::Bytes;
 
+/// The direction of an ORDER BY column.
 #[derive(Clone, Copy, Debug, PartialEq, Eq)]
 pub enum Direction {
     Ascending,

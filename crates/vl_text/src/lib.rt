@@ -1,8 +1,8 @@
-// The texts by which replies and script lines name values, keys and shards.
-//
-// `shown` prints a value as rows are printed, by the type of its column; `key_text` prints a key so;
-// `joined_text` prints the values of a duplicate entry; `shard_name` names a shard by its keyspace and
-// its range. Each gives exactly the text of its definition in `specs/`.
+//! The texts by which replies and script lines name values, keys and shards.
+//!
+//! `shown` prints a value as rows are printed, by the type of its column; `key_text` prints a key so;
+//! `joined_text` prints the values of a duplicate entry; `shard_name` names a shard by its keyspace and
+//! its range. Each gives exactly the text of its definition in `specs/`.
 #![tactic(auto)]
 
 mod joined;

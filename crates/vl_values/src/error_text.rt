@@ -20,6 +20,7 @@ impl Model for ErrorText {
 }
 
 impl ErrorText {
+    /// A text of no byte.
     pub fn new() -> ErrorText
         ensures { result ≡ [] }
     {
@@ -28,6 +29,7 @@ impl ErrorText {
         }
     }
 
+    /// The bytes that were put in so far.
     pub fn as_slice(&self) -> &[u8]
         ensures value { result.now ≡ self.now }
         ensures short { length self.now ≤ 512 }

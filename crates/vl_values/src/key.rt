@@ -13,6 +13,7 @@ pub struct Key {
 impl Key {
     ghost use Rattle.std.specs.Prelude.{◌≡◌, IfOk};
 
+    /// A copy. `AllocError` where memory was refused.
     pub fn copy(&self, alloc: Global) -> Result<Key, AllocError>
         ensures { IfOk result (λ key. key ≡ self.now) }
     {

@@ -1,11 +1,11 @@
-// Values, keys, rows and replies: the plain data that every layer above speaks of.
-//
-// A value is NULL, a signed or an unsigned 64-bit number, or bytes; a row is a list of values, and a
-// key is a table's number with the values of its primary key. Contracts see each collection as the
-// list of what it holds. The layers above rely on one total order of values, whose equality is `=`:
-// NULL is least, numbers go by value, and bytes by their first difference. A refusal of a statement
-// is a `Cause`; its text is that of the error packet and of a script's reply line. What failed of a
-// statement that was done is a `Warning`.
+//! Values, keys, rows and replies: the plain data that every layer above speaks of.
+//!
+//! A value is NULL, a signed or an unsigned 64-bit number, or bytes; a row is a list of values, and a
+//! key is a table's number with the values of its primary key. Contracts see each collection as the
+//! list of what it holds. The layers above rely on one total order of values, whose equality is `=`:
+//! NULL is least, numbers go by value, and bytes by their first difference. A refusal of a statement
+//! is a `Cause`; its text is that of the error packet and of a script's reply line. What failed of a
+//! statement that was done is a `Warning`.
 #![tactic(auto)]
 
 pub mod bytes;

@@ -37,18 +37,21 @@ impl Row {
         values
     }
 
+    /// The values, in the order of the table's columns.
     pub fn as_slice(&self) -> &[Value]
         ensures { result.now ≡ self.now }
     {
         self.values.as_slice()
     }
 
+    /// How many values there are.
     pub fn len(&self) -> usize
         ensures { result ≡ length self.now }
     {
         self.values.len()
     }
 
+    /// A copy. `AllocError` where memory was refused.
     pub fn copy(&self, alloc: Global) -> Result<Row, AllocError>
         ensures { IfOk result (λ row. row ≡ self.now) }
     {

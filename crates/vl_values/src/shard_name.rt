@@ -19,6 +19,7 @@ impl Model for ShardName {
 }
 
 impl ShardName {
+    /// A name of at most 130 bytes.
     pub fn new(name: &[u8]) -> ShardName
         requires { length name.now ≤ 130 }
         ensures { result ≡ name.now }
@@ -28,6 +29,7 @@ impl ShardName {
         ShardName { bytes }
     }
 
+    /// The bytes of the name.
     pub fn as_slice(&self) -> &[u8]
         ensures { result.now ≡ self.now }
     {

@@ -14,12 +14,14 @@ pub enum Value {
 }
 
 impl Value {
+    /// Whether it is NULL.
     pub fn is_null(&self) -> bool
         ensures { result ≡ is_null self.now }
     {
         matches!(self, Value::Null)
     }
 
+    /// A copy. `AllocError` where memory was refused.
     pub fn copy(&self, alloc: Global) -> Result<Value, AllocError>
         ensures { IfOk result (λ v. v ≡ self.now) }
     {

@@ -64,6 +64,7 @@ impl KeyRange {
         !comes_before(ksid, self.start.as_slice()) && is_above(self.end.as_slice(), ksid)
     }
 
+    /// The side where the range begins, which it holds.
     pub fn start(&self) -> &Side
         ensures value { result.now ≡ self.now.start }
         ensures ordered { IsTrue (is_ordered self.now) }
@@ -79,6 +80,7 @@ impl KeyRange {
         &self.end
     }
 
+    /// A copy.
     pub fn copy(&self) -> KeyRange
         ensures { result ≡ self.now }
     {

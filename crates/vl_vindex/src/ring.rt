@@ -85,6 +85,7 @@ impl Ring {
         last_start(&self.ranges, ksid) as ShardNo
     }
 
+    /// A copy. `AllocError` where memory was refused.
     pub fn copy(&self, alloc: Global) -> Result<Ring, AllocError>
         ensures { IfOk result (λ ring. ring ≡ self.now) }
     {

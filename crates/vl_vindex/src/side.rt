@@ -31,6 +31,7 @@ impl Side {
         }
     }
 
+    /// The bytes of the side, at most 16.
     pub fn as_slice(&self) -> &[u8]
         ensures value { result.now ≡ self.now }
         ensures within { length self.now ≤ 16 }
@@ -38,12 +39,14 @@ impl Side {
         &self.bytes[..self.len]
     }
 
+    /// Whether it has no byte.
     pub fn is_empty(&self) -> bool
         ensures { IsTrue result ↔ (self.now ≡ []) }
     {
         self.len == 0
     }
 
+    /// A copy.
     pub fn copy(&self) -> Side
         ensures { result ≡ self.now }
     {

@@ -26,6 +26,7 @@ impl FileName {
         Ok(FileName { name })
     }
 
+    /// The name as a text.
     pub fn as_str(&self) -> &str
         ensures { result.now ≡ self.now }
     {
