@@ -25,7 +25,7 @@ use Rattle.vl_exec.specs.Making.{IsMade}
 use Rattle.vl_exec.specs.Progress.{Progress, due, with_rows, with_write}
 use Rattle.vl_exec.specs.Stepping.{Did, Full, NoRoom, Stepped}
 use Rattle.vl_exec.proofs.Dues.{IsAt, done_writes, due_fits, due_is, never_unchanged}
-use Rattle.vl_exec.proofs.Reached.{done_there}
+use Rattle.vl_statement.proofs.Reached.{done_there}
 
 -- ---- the transaction is the same but for its list of sessions and its count of changes
 

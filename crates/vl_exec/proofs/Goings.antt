@@ -15,7 +15,7 @@ use Rattle.vl_exec.specs.declared.search.Search.{Search}
 use Rattle.vl_statement.specs.Effects.{IsWell}
 use Rattle.vl_exec.specs.Answering.{Answered, OrNoMemory, WaitsOn, refused}
 use Rattle.vl_exec.specs.Progress.{IsNearer, Progress, acts_done, has_read, with_rows, with_try, with_write}
-use Rattle.vl_exec.proofs.Reached.{IsOfAct}
+use Rattle.vl_statement.proofs.Reached.{IsOfAct}
 
 pub data Went (old : Progress) (action : Action) (limit : ℕ) (new : Progress) : Answer → Type 0 where
   Wrote : new ≡ with_write old → Went old action limit new Done

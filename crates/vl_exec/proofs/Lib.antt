@@ -5,7 +5,6 @@ pub mod Finding
 pub mod Goings
 pub mod Keeping
 pub mod Owing
-pub mod Reached
 pub mod Settings
 pub mod Staged
 pub mod Steps

@@ -33,7 +33,7 @@ use Rattle.vl_exec.proofs.Dues.{IsDue, contains_at, done_writes, rows_read, sear
 use Rattle.vl_exec.proofs.Finding.{write_from, write_is}
 use Rattle.vl_exec.proofs.Goings.{Read, Waited, Went, Wrote}
 use Rattle.vl_exec.proofs.Keeping.{read_given, with_rows_is}
-use Rattle.vl_exec.proofs.Reached.{IsDone, reached_same, still_holds}
+use Rattle.vl_statement.proofs.Reached.{IsDone, reached_same, still_holds}
 use Rattle.vl_exec.proofs.Writings.{front_at, key_of_write, key_or_not, ordered_at, pending_other, precedes_apart}
 
 -- ---- one shard

@@ -39,7 +39,7 @@ use Rattle.vl_exec.proofs.Dues.{IsDue, done_writes, due_fits, due_is, due_main, 
 use Rattle.vl_exec.proofs.Goings.{Read, Waited, Went, Wrote, ended, read_counts, reads_end, went, went_of_act, write_counts, writes_end}
 use Rattle.vl_exec.proofs.Keeping.{went_keeps}
 use Rattle.vl_exec.proofs.Owing.{IsUpFor, went_owes}
-use Rattle.vl_exec.proofs.Reached.{IsDone, IsOfAct, acted_holds, done_there, held_up, memory_leaves, reached_holder, reached_pending, reached_placed}
+use Rattle.vl_statement.proofs.Reached.{IsDone, IsOfAct, acted_holds, done_there, held_up, memory_leaves, reached_holder, reached_pending, reached_placed}
 use Rattle.vl_exec.proofs.Writings.{same_tx, went_written}
 
 -- what a step asks for

@@ -36,7 +36,7 @@ use Rattle.vl_exec.specs.Making.{IsInsert, IsMade, IsSearchIn, IsWrite, Precedes
 use Rattle.vl_exec.specs.Progress.{Progress, has_read, with_write}
 use Rattle.vl_exec.proofs.Dues.{IsDue, contains_at, done_writes}
 use Rattle.vl_exec.proofs.Goings.{Read, Waited, Went, Wrote}
-use Rattle.vl_exec.proofs.Reached.{IsDone, reached_pending}
+use Rattle.vl_statement.proofs.Reached.{IsDone, reached_pending}
 
 -- ---- keys
 

@@ -1,14 +1,11 @@
 -- A step by what it did: the claim in progress, or the row.
-use Rattle.std.proofs.Common.{◌≡◌, ◌<◌, ℕ, true, false, Option, Some, refl, sym, ap, ◌∙◌, subst, arith}
-use Rattle.std.specs.Prelude.{Contains}
+use Rattle.std.proofs.Common.{◌≡◌, ◌<◌, ℕ, false, Option, Some, sym, ap, ◌∙◌, subst, arith}
 use Rattle.vl_values.specs.declared.cause.Cause.TheVariants.{OutOfMemory}
 use Rattle.vl_values.specs.declared.group.Group.{Group}
 use Rattle.vl_values.specs.declared.group.Group.TheVariants.{Main}
 use Rattle.vl_catalog.specs.declared.catalog.Catalog.{Catalog}
 use Rattle.vl_port.specs.declared.act.Act.{Act}
-use Rattle.vl_port.specs.declared.act.Act.TheVariants.{Insert}
 use Rattle.vl_port.specs.declared.answer.Answer.{Answer}
-use Rattle.vl_port.specs.declared.carried.Carried.{Carried}
 use Rattle.vl_port.specs.declared.tx_state.TxState.{TxState}
 use Rattle.vl_port.specs.Asking.{HasAnswered, IsSameTx, IsUnasked}
 use Rattle.vl_port.specs.Calls.{PortView}

@@ -1,5 +1,5 @@
 -- The tasks of a plan that fits the catalog: they are made, and how many actions they have.
-use Rattle.std.proofs.Common.{◌≡◌, ℕ, zero, suc, ◌+◌, ◌*◌, ◌<◌, ◌≤◌, Bool, true, false, not, List, [], ◌∷◌, ◌++◌, length, map, drop, get_or, Option, Some, None, inl, inr, refl, sym, ap, ◌∙◌, subst, arith}
+use Rattle.std.proofs.Common.{◌≡◌, ℕ, suc, ◌+◌, ◌*◌, ◌<◌, ◌≤◌, Bool, true, false, not, List, [], ◌∷◌, ◌++◌, length, map, get_or, Option, Some, inl, inr, refl, sym, ap, ◌∙◌, subst, arith}
 use Rattle.std.specs.Prelude.{Contains, slice_get, slice_index_or, unwrap_or, if◌then◌else◌, filter}
 use Rattle.std.specs.List.{All, AllByRecursion, list_any, sum_by}
 use Rattle.std.proofs.lemmas.Bool.{cases_Bool}
@@ -27,9 +27,8 @@ use Rattle.vl_route.proofs.Homes.{AreCovering, placed_within}
 use Rattle.vl_plan.specs.declared.insert_plan.InsertPlan.{InsertPlan}
 use Rattle.vl_plan.specs.Fits.{FitsInsert}
 use Rattle.vl_port.specs.View.{Values}
-use Rattle.vl_lookup.specs.Making.{IsIndexedRow, entry_values}
+use Rattle.vl_lookup.specs.Making.{IsIndexedRow}
 use Rattle.vl_lookup.specs.Progress.{Progress as Claiming, acts_left}
-use Rattle.vl_insert.specs.declared.insertion.Insertion.{Insertion}
 use Rattle.vl_insert.specs.declared.task.Task.{Task}
 use Rattle.vl_insert.specs.declared.task.Task.TheVariants as tasks
 use Rattle.vl_insert.specs.Begun.{AreClaimsFor, AreTasks, beginning, insertion_of, is_indexed_by, key_in, lookups_of, needed}

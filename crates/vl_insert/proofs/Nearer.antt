@@ -1,5 +1,5 @@
 -- A step after which the program goes on: it is nearer to its end, and may be stepped again.
-use Rattle.std.proofs.Common.{◌≡◌, ◌<◌, ℕ, suc, ◌+◌, inl, inr, Bool, true, false, List, [], ◌∷◌, drop, length, get_or, Option, Some, None, refl, sym, ap, ◌∙◌, subst, arith}
+use Rattle.std.proofs.Common.{◌≡◌, ◌<◌, ℕ, suc, ◌+◌, inl, inr, Bool, true, false, List, [], ◌∷◌, drop, Option, Some, refl, sym, ap, ◌∙◌, subst, arith}
 use Rattle.std.specs.Prelude.{Contains, nat_lt, slice_get}
 use Rattle.std.specs.List.{sum_by}
 use Rattle.std.specs.Option.{option_map_or}
@@ -21,26 +21,27 @@ use Rattle.vl_lookup.specs.Making.{IsClaim}
 use Rattle.vl_lookup.specs.Progress.{Progress as Claiming, acts_left}
 use Rattle.vl_statement.specs.declared.program_told.ProgramTold.{ProgramTold}
 use Rattle.vl_statement.specs.declared.program_told.ProgramTold.TheVariants as told
-use Rattle.vl_statement.specs.Refusing.{duplicate_entry, duplicate_row, lock_wait, removed_and_claimed}
+use Rattle.vl_statement.specs.Refusing.{IsRefusedFor, duplicate_entry, duplicate_row, lock_wait, removed_and_claimed}
 use Rattle.vl_insert.specs.declared.insertion.Insertion.{Insertion}
 use Rattle.vl_insert.specs.declared.task.Task.{Task}
 use Rattle.vl_insert.specs.declared.task.Task.TheVariants as tasks
-use Rattle.vl_insert.specs.Answering.{ClaimMeans, IsRefusedFor, RowAnswered, WaitsOn, is_writing}
+use Rattle.vl_insert.specs.Answering.{ClaimMeans, RowAnswered, is_writing}
 use Rattle.vl_statement.specs.Effects.{IsWell}
+use Rattle.vl_statement.specs.Waiting.{WaitsOn}
 use Rattle.vl_insert.specs.Making.{IsMade, IsTask}
-use Rattle.vl_insert.specs.Progress.{Progress, actions_left, at_claim, task_actions, with_action, with_task, with_try}
+use Rattle.vl_insert.specs.Progress.{Progress, actions_left, at_claim, task_actions, with_task, with_try}
 use Rattle.vl_insert.proofs.Telling.{ended}
 
 -- ---- refusals
 
-refused_ends : {X : Type 0} (tx : TxState) (p : Progress) (tells : ProgramTold) (cause : Cause) → IsRefusedFor tx p tells cause → IsWell tells → X
+refused_ends : {X : Type 0} (tx : TxState) (p : Progress) (tells : ProgramTold) (cause : Cause) → IsRefusedFor tx p.wrote tells cause → IsWell tells → X
 refused_ends tx p tells cause (inl is) well = ended tells _ is (λ it. it) well
 refused_ends tx p tells cause (inr is) well = ended tells _ is (λ it. it) well
 
 pub more_is_well : (tells : ProgramTold) → tells ≡ told.More → IsWell tells
 more_is_well tells is = subst IsWell (sym is) tt
 
-waits_no_more : {X : Type 0} (catalog : Catalog) (tx : TxState) (b : Bool) (p : Progress) (by : ℕ) (key : Key) (tells : ProgramTold) (new : Progress) → WaitsOn catalog tx b p by key tells new → tells ≡ told.More → X
+waits_no_more : {X : Type 0} (catalog : Catalog) (tx : TxState) (b : Bool) (p : Progress) (by : ℕ) (key : Key) (tells : ProgramTold) (new : Progress) → WaitsOn catalog tx b p.wrote p.tries by key tells (with_try p) new → tells ≡ told.More → X
 waits_no_more catalog tx true p by key tells new h more = absurd (cc (h.0, more))
 waits_no_more catalog tx false p by key tells new h more = refused_ends tx p tells (lock_wait catalog tx.limits.tries by key) h (more_is_well tells more)
 
@@ -113,7 +114,7 @@ task_made catalog count limit p writes made = record {
 }
 
 waits_made : (catalog : Catalog) (count : ℕ) (tx : TxState) (b : Bool) (p : Progress) (by : ℕ) (key : Key) (tells : ProgramTold) (new : Progress) → nat_lt (p.tries + 1) tx.limits.tries ≡ b
-    → IsMade catalog count tx.limits.tries p → WaitsOn catalog tx b p by key tells new → IsWell tells → IsMade catalog count tx.limits.tries new
+    → IsMade catalog count tx.limits.tries p → WaitsOn catalog tx b p.wrote p.tries by key tells (with_try p) new → IsWell tells → IsMade catalog count tx.limits.tries new
 waits_made catalog count tx true p by key tells new below made h well =
     subst (IsMade catalog count tx.limits.tries) (sym h.1) (record { task = made.task; later = made.later; tries = ltb-true (p.tries + 1) tx.limits.tries below })
 waits_made catalog count tx false p by key tells new below made h well = refused_ends tx p tells (lock_wait catalog tx.limits.tries by key) h well

@@ -1,22 +1,14 @@
 -- What a step keeps and changes, by what it did.
-use Rattle.std.proofs.Common.{◌≡◌, ◌⊎◌, ◌<◌, ◌≤◌, ℕ, ◌+◌, inl, inr, Bool, true, false, List, [], ◌∷◌, drop, Option, Some, None, refl, sym, ap, ◌∙◌, subst, arith}
-use Rattle.std.specs.Prelude.{Contains, nat_lt, slice_get}
-use Rattle.std.specs.List.{sum_by}
-use Rattle.std.specs.Option.{option_map_or}
-use Rattle.std.proofs.lemmas.Bool.{ltb-true}
-use Rattle.std.proofs.lemmas.List.Sums.{sum_by-cons}
-use Rattle.vl_values.specs.declared.cause.Cause.{Cause}
-use Rattle.vl_values.specs.declared.group.Group.{Group}
-use Rattle.vl_values.specs.declared.group.Group.TheVariants.{Pre, Main}
+use Rattle.std.proofs.Common.{◌≡◌, ℕ, true, List, refl, sym, ap, ◌∙◌, subst}
+use Rattle.vl_values.specs.declared.group.Group.TheVariants.{Main}
 use Rattle.vl_values.specs.declared.key.Key.{Key}
 use Rattle.vl_values.specs.declared.lost_why.LostWhy.{LostWhy}
 use Rattle.vl_catalog.specs.declared.catalog.Catalog.{Catalog}
-use Rattle.vl_port.specs.declared.act.Act.{Act}
 use Rattle.vl_port.specs.declared.answer.Answer.{Answer}
 use Rattle.vl_port.specs.declared.answer.Answer.TheVariants.{Done, Unchanged, Rows, Found, Held, Lost, Device, Limit, Memory}
 use Rattle.vl_port.specs.declared.claimed.Claimed.{Claimed}
 use Rattle.vl_port.specs.declared.tx_state.TxState.{TxState}
-use Rattle.vl_port.specs.Calls.{HasActed, PortView}
+use Rattle.vl_port.specs.Calls.{PortView}
 use Rattle.vl_port.specs.Serving.{Shards}
 use Rattle.vl_port.specs.Transaction.{session_of}
 use Rattle.vl_lookup.specs.declared.claim_told.ClaimTold.{ClaimTold}
@@ -24,23 +16,17 @@ use Rattle.vl_lookup.specs.declared.claim_told.ClaimTold.TheVariants as claims
 use Rattle.vl_lookup.specs.declared.stage.Stage.{Stage}
 use Rattle.vl_lookup.specs.declared.stage.Stage.TheVariants as stages
 use Rattle.vl_lookup.specs.Answering.{AnsweredAt}
-use Rattle.vl_lookup.specs.Making.{IsClaim}
-use Rattle.vl_lookup.specs.Progress.{Progress as Claiming, acts_left, due as claim_due, due_at}
+use Rattle.vl_lookup.specs.Progress.{Progress as Claiming, due as claim_due, due_at}
 use Rattle.vl_lookup.specs.Stepping.{ClaimStepped}
 use Rattle.vl_lookup.specs.Stepping.{Crossed as ClaimCrossed, Full as ClaimFull, NoRoom as ClaimNoRoom, Did as ClaimDid}
 use Rattle.vl_statement.specs.declared.program_told.ProgramTold.{ProgramTold}
-use Rattle.vl_statement.specs.declared.program_told.ProgramTold.TheVariants as told
-use Rattle.vl_statement.specs.Refusing.{device_failed, refused_whole, session_lost}
-use Rattle.vl_insert.specs.declared.insertion.Insertion.{Insertion}
-use Rattle.vl_insert.specs.declared.task.Task.{Task}
-use Rattle.vl_insert.specs.declared.task.Task.TheVariants as tasks
-use Rattle.vl_insert.specs.Answering.{ClaimMeans, IsRefusedFor, RowAnswered, TellsNext, WaitsOn, is_writing, refused_now}
-use Rattle.vl_statement.specs.Effects.{HasLocksOf, HasPendingOf, IsWell, LeavesOpen}
-use Rattle.vl_insert.specs.Making.{IsMade, IsTask}
-use Rattle.vl_insert.specs.Progress.{Progress, actions_left, at_claim, task_actions, with_action, with_task, with_try}
+use Rattle.vl_statement.specs.Refusing.{device_failed, session_lost}
+use Rattle.vl_insert.specs.Answering.{ClaimMeans, RowAnswered, is_writing}
+use Rattle.vl_statement.specs.Effects.{HasLocksOf, HasPendingOf}
+use Rattle.vl_insert.specs.Progress.{Progress, at_claim}
 use Rattle.vl_insert.specs.Stepping.{Claimed as StepClaimed, Did, Full, Idle, NoRoom, Stepped}
-use Rattle.vl_insert.proofs.Leaving.{IsSpared, act_holds, act_pends}
-use Rattle.vl_insert.proofs.Telling.{IsOn, IsUnwritten, ended, unwritten_on, whole_is_off, wrote_now}
+use Rattle.vl_statement.proofs.Leaving.{IsSpared, act_holds, act_pends}
+use Rattle.vl_insert.proofs.Telling.{IsOn, IsUnwritten, unwritten_on, whole_is_off, wrote_now}
 
 -- ---- what a claim tells of its answer
 

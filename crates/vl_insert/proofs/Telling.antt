@@ -1,10 +1,9 @@
 -- What is told means the same for the transaction as it was before the action, and which meanings leave a
 -- transaction open.
-use Rattle.std.proofs.Common.{◌≡◌, ◌≤◌, ◌⊎◌, ℕ, ◌+◌, inl, inr, Bool, true, false, Option, Some, None, refl, sym, ap, ◌∙◌, subst, arith}
+use Rattle.std.proofs.Common.{◌≡◌, ◌⊎◌, ℕ, ◌+◌, inl, inr, Bool, true, false, Option, Some, None, refl, ap, subst, arith}
 use Rattle.std.specs.Prelude.{nat_lt, ◌||◌, slice_get}
 use Rattle.vl_values.specs.declared.cause.Cause.{Cause}
 use Rattle.vl_values.specs.declared.group.Group.{Group}
-use Rattle.vl_values.specs.declared.key.Key.{Key}
 use Rattle.vl_catalog.specs.declared.catalog.Catalog.{Catalog}
 use Rattle.vl_port.specs.declared.answer.Answer.{Answer}
 use Rattle.vl_port.specs.declared.answer.Answer.TheVariants.{Done, Unchanged, Rows, Found, Held, Lost, Device, Limit, Memory}
@@ -16,12 +15,12 @@ use Rattle.vl_lookup.specs.declared.claim_told.ClaimTold.TheVariants as claims
 use Rattle.vl_lookup.specs.Progress.{Progress as Claiming}
 use Rattle.vl_lookup.specs.Stepping.{IsSameTxButClaims}
 use Rattle.vl_statement.specs.declared.program_told.ProgramTold.{ProgramTold}
-use Rattle.vl_statement.specs.declared.program_told.ProgramTold.TheVariants as told
 use Rattle.vl_statement.specs.Refusing.{refused_whole}
 use Rattle.vl_insert.specs.declared.task.Task.{Task}
-use Rattle.vl_insert.specs.Answering.{ClaimMeans, RowAnswered, TellsNext, WaitsOn, is_writing}
+use Rattle.vl_insert.specs.Answering.{ClaimMeans, RowAnswered, TellsNext, is_writing}
 use Rattle.vl_statement.specs.Effects.{IsWell, LeavesOpen}
-use Rattle.vl_insert.specs.Progress.{Progress, with_task}
+use Rattle.vl_insert.specs.Progress.{Progress, with_task, with_try}
+use Rattle.vl_statement.proofs.Waited.{told_alike, told_by, waits_for}
 
 -- ---- the transaction is the same but for its sessions, its claims and its count of changes
 
@@ -34,27 +33,15 @@ same_tx_itself tx = record { number = refl; session = refl; limits = refl; auto 
 pub same_tx_but_claims : (tx new : TxState) → IsSameTx tx new → IsSameTxButClaims tx new
 same_tx_but_claims tx new same = record { number = same.number; session = same.session; limits = same.limits; auto = same.auto; single = same.single; changes = same.changes; claimed = refl; removed = same.removed }
 
--- the transaction with what an answer is told by: its limits and modes
-abbrev told_by : TxState → TxState → TxState
-told_by tx new = record tx { limits = new.limits; auto = new.auto; single = new.single }
-
-told_alike : (tx new : TxState) → IsSameTxButClaims tx new → told_by tx new ≡ tx
-told_alike tx new same = λ i. record tx { limits = same.limits i; auto = same.auto i; single = same.single i }
-
 next_for : (tx new : TxState) (o : Option Task) (p : Progress) (tells : ProgramTold) → TellsNext new o p tells → TellsNext (told_by tx new) o p tells
 next_for tx new None p tells h = h
 next_for tx new (Some task) p tells h = h
-
-waits_for : (catalog : Catalog) (tx new : TxState) (b : Bool) (p : Progress) (by : ℕ) (key : Key) (tells : ProgramTold) (after : Progress) → WaitsOn catalog new b p by key tells after
-    → WaitsOn catalog (told_by tx new) b p by key tells after
-waits_for catalog tx new true p by key tells after h = h
-waits_for catalog tx new false p by key tells after h = h
 
 claim_for : (catalog : Catalog) (tx new : TxState) (p : Progress) (group : Group) (claim : Claiming) (said : ClaimTold) (tells : ProgramTold) (after : Progress) → ClaimMeans catalog new p group claim said tells after
     → ClaimMeans catalog (told_by tx new) p group claim said tells after
 claim_for catalog tx new p group claim claims.More tells after h = h
 claim_for catalog tx new p group claim claims.Done tells after h = (next_for tx new (slice_get p.later 0) (with_task (is_writing group) p) tells h.0, h.1)
-claim_for catalog tx new p group claim (claims.Held by key) tells after h = waits_for catalog tx new (nat_lt (p.tries + 1) new.limits.tries) p by key tells after h
+claim_for catalog tx new p group claim (claims.Held by key) tells after h = waits_for catalog tx new (nat_lt (p.tries + 1) new.limits.tries) p.wrote p.tries by key tells (with_try p) after h
 claim_for catalog tx new p group claim (claims.SelfHeld key) tells after h = h
 claim_for catalog tx new p group claim (claims.Duplicate lookup shard key) tells after h = h
 claim_for catalog tx new p group claim (claims.Lost shard why) tells after h = h
@@ -65,12 +52,12 @@ claim_for catalog tx new p group claim claims.Memory tells after h = h
 -- what a claim told means the same for the transaction as it was
 pub claim_means : (catalog : Catalog) (tx new : TxState) (p : Progress) (group : Group) (claim : Claiming) (said : ClaimTold) (tells : ProgramTold) (after : Progress) → IsSameTxButClaims tx new
     → ClaimMeans catalog new p group claim said tells after → ClaimMeans catalog tx p group claim said tells after
-claim_means catalog tx new p group claim said tells after same h = subst (λ (t : TxState). ClaimMeans catalog t p group claim said tells after) (told_alike tx new same) (claim_for catalog tx new p group claim said tells after h)
+claim_means catalog tx new p group claim said tells after same h = subst (λ (t : TxState). ClaimMeans catalog t p group claim said tells after) (told_alike tx new same.limits same.auto same.single) (claim_for catalog tx new p group claim said tells after h)
 
 row_for : (catalog : Catalog) (tx new : TxState) (p : Progress) (shard : ℕ) (answer : Answer) (tells : ProgramTold) (after : Progress) → RowAnswered catalog new p shard answer tells after
     → RowAnswered catalog (told_by tx new) p shard answer tells after
 row_for catalog tx new p shard Done tells after h = (next_for tx new (slice_get p.later 0) (with_task true p) tells h.0, h.1)
-row_for catalog tx new p shard (Held by key) tells after h = waits_for catalog tx new (nat_lt (p.tries + 1) new.limits.tries) p by key tells after h
+row_for catalog tx new p shard (Held by key) tells after h = waits_for catalog tx new (nat_lt (p.tries + 1) new.limits.tries) p.wrote p.tries by key tells (with_try p) after h
 row_for catalog tx new p shard (Found key row) tells after h = h
 row_for catalog tx new p shard (Limit what count) tells after h = h
 row_for catalog tx new p shard (Lost why) tells after h = h
@@ -82,7 +69,7 @@ row_for catalog tx new p shard (Rows rows) tells after h = h
 -- and so does the answer to a row
 pub row_means : (catalog : Catalog) (tx new : TxState) (p : Progress) (shard : ℕ) (answer : Answer) (tells : ProgramTold) (after : Progress) → IsSameTxButClaims tx new
     → RowAnswered catalog new p shard answer tells after → RowAnswered catalog tx p shard answer tells after
-row_means catalog tx new p shard answer tells after same h = subst (λ (t : TxState). RowAnswered catalog t p shard answer tells after) (told_alike tx new same) (row_for catalog tx new p shard answer tells after h)
+row_means catalog tx new p shard answer tells after same h = subst (λ (t : TxState). RowAnswered catalog t p shard answer tells after) (told_alike tx new same.limits same.auto same.single) (row_for catalog tx new p shard answer tells after h)
 
 -- ---- what a reply leaves
 

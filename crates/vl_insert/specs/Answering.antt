@@ -1,5 +1,5 @@
 -- What a program tells after a step of its claim or the answer to its row, and what is left then.
-use Rattle.std.specs.Prelude.{◌≡◌, ◌⊎◌, ℕ, ◌+◌, nat_lt, Bool, true, false, Option, Some, None}
+use Rattle.std.specs.Prelude.{◌≡◌, ℕ, Bool, true, false, Option, Some, None}
 use Rattle.vl_values.specs.declared.cause.Cause.{Cause}
 use Rattle.vl_values.specs.declared.cause.Cause.TheVariants as causes
 use Rattle.vl_values.specs.declared.group.Group.{Group}
@@ -14,7 +14,8 @@ use Rattle.vl_lookup.specs.declared.claim_told.ClaimTold.TheVariants as claims
 use Rattle.vl_lookup.specs.Progress.{Progress as Claiming}
 use Rattle.vl_statement.specs.declared.program_told.ProgramTold.{ProgramTold}
 use Rattle.vl_statement.specs.declared.program_told.ProgramTold.TheVariants as told
-use Rattle.vl_statement.specs.Refusing.{device_failed, done, duplicate_entry, duplicate_row, lock_wait, refused, refused_whole, removed_and_claimed, session_lost}
+use Rattle.vl_statement.specs.Refusing.{IsRefusedFor, device_failed, done, duplicate_entry, duplicate_row, refused, refused_whole, removed_and_claimed, session_lost}
+use Rattle.vl_statement.specs.Waiting.{Waits}
 use Rattle.vl_insert.specs.declared.task.Task.{Task}
 use Rattle.vl_insert.specs.Progress.{Progress, with_action, with_task, with_try}
 
@@ -25,10 +26,6 @@ reply_of tx p = done tx p.rows p.rows
 abbrev pub refused_now : TxState → Progress → Cause → ProgramTold
 refused_now tx p cause = refused tx p.wrote cause
 
--- memory was refused, or else this cause
-abbrev pub IsRefusedFor : TxState → Progress → ProgramTold → Cause → Type 0
-IsRefusedFor tx p tells cause = (tells ≡ refused_now tx p causes.OutOfMemory) ⊎ (tells ≡ refused_now tx p cause)
-
 -- another action is due, or the statement is done
 abbrev pub TellsNext : TxState → Option Task → Progress → ProgramTold → Type 0
 TellsNext tx None after tells = tells ≡ reply_of tx after
@@ -37,13 +34,9 @@ TellsNext tx (Some task) after tells = tells ≡ told.More
 abbrev pub Goes : TxState → Progress → ProgramTold → Progress → Type 0
 Goes tx after tells new = TellsNext tx after.task after tells × (new ≡ after)
 
--- the same action is done again, until it was tried as often as the limit says
-abbrev pub WaitsOn : Catalog → TxState → Bool → Progress → ℕ → Key → ProgramTold → Progress → Type 0
-WaitsOn catalog tx true p by key tells new = (tells ≡ told.Held by key (p.tries + 1)) × (new ≡ with_try p)
-WaitsOn catalog tx false p by key tells new = IsRefusedFor tx p tells (lock_wait catalog tx.limits.tries by key)
-
-abbrev pub Waits : Catalog → TxState → Progress → ℕ → Key → ProgramTold → Progress → Type 0
-Waits catalog tx p by key tells new = WaitsOn catalog tx (nat_lt (p.tries + 1) tx.limits.tries) p by key tells new
+-- the key that the action must obtain is held by another session
+abbrev pub AwaitsKey : Catalog → TxState → Progress → ℕ → Key → ProgramTold → Progress → Type 0
+AwaitsKey catalog tx p by key tells new = Waits catalog tx p.wrote p.tries by key tells (with_try p) new
 
 -- ---- a claim
 
@@ -58,9 +51,9 @@ abbrev pub ClaimMeans : Catalog → TxState → Progress → Group → Claiming 
 ClaimMeans catalog tx p group claim claims.More tells new = (tells ≡ told.More) × (new ≡ with_action p)
 -- an entry that stood and is kept was read and no more
 ClaimMeans catalog tx p group claim claims.Done tells new = Goes tx (with_task (is_writing group) p) tells new
-ClaimMeans catalog tx p group claim (claims.Held by key) tells new = Waits catalog tx p by key tells new
-ClaimMeans catalog tx p group claim (claims.SelfHeld key) tells new = IsRefusedFor tx p tells (removed_and_claimed catalog claim.lookup claim.row)
-ClaimMeans catalog tx p group claim (claims.Duplicate lookup shard key) tells new = IsRefusedFor tx p tells (duplicate_entry catalog lookup claim.row shard key)
+ClaimMeans catalog tx p group claim (claims.Held by key) tells new = AwaitsKey catalog tx p by key tells new
+ClaimMeans catalog tx p group claim (claims.SelfHeld key) tells new = IsRefusedFor tx p.wrote tells (removed_and_claimed catalog claim.lookup claim.row)
+ClaimMeans catalog tx p group claim (claims.Duplicate lookup shard key) tells new = IsRefusedFor tx p.wrote tells (duplicate_entry catalog lookup claim.row shard key)
 ClaimMeans catalog tx p group claim (claims.Lost shard why) tells new = tells ≡ refused_whole (session_lost catalog group shard why)
 ClaimMeans catalog tx p group claim (claims.Device shard) tells new = tells ≡ refused_whole (device_failed catalog shard)
 ClaimMeans catalog tx p group claim (claims.Limit what count) tells new = tells ≡ refused_now tx p (causes.Limit what count)
@@ -71,8 +64,8 @@ ClaimMeans catalog tx p group claim claims.Memory tells new = tells ≡ refused_
 -- the answer to the Insert of a row on this shard
 abbrev pub RowAnswered : Catalog → TxState → Progress → ℕ → Answer → ProgramTold → Progress → Type 0
 RowAnswered catalog tx p shard Done tells new = Goes tx (with_task true p) tells new
-RowAnswered catalog tx p shard (Found key row) tells new = IsRefusedFor tx p tells (duplicate_row catalog shard key)
-RowAnswered catalog tx p shard (Held by key) tells new = Waits catalog tx p by key tells new
+RowAnswered catalog tx p shard (Found key row) tells new = IsRefusedFor tx p.wrote tells (duplicate_row catalog shard key)
+RowAnswered catalog tx p shard (Held by key) tells new = AwaitsKey catalog tx p by key tells new
 RowAnswered catalog tx p shard (Limit what count) tells new = tells ≡ refused_now tx p (causes.Limit what count)
 RowAnswered catalog tx p shard (Lost why) tells new = tells ≡ refused_whole (session_lost catalog Main shard why)
 RowAnswered catalog tx p shard Device tells new = tells ≡ refused_whole (device_failed catalog shard)

@@ -1,6 +1,6 @@
 -- What the program of an INSERT begins with: for each row in order, a claim of each entry that it needs in the
 -- order of the table's lookups, and then the row.
-use Rattle.std.specs.Prelude.{◌≡◌, ℕ, Bool, false, not, List, [], ◌∷◌, ◌++◌, drop, filter, length, map, slice_get, slice_index_or, unwrap_or, Some}
+use Rattle.std.specs.Prelude.{◌≡◌, ℕ, Bool, false, not, List, [], ◌∷◌, ◌++◌, drop, filter, length, map, slice_get, slice_index_or, unwrap_or}
 use Rattle.std.specs.Option.{option_map_or}
 use Rattle.vl_values.specs.declared.key.Key.{Key}
 use Rattle.vl_values.specs.declared.value.Value.TheVariants.{Null}

@@ -1,5 +1,5 @@
 -- What is made before a plan is taken apart: its claims, and where its rows go.
-use Rattle.std.specs.Prelude.{◌≡◌, ◌≤◌, ℕ, ◌+◌, Bool, false, Contains, List, [], ◌∷◌, ◌++◌, length, map, slice_get, slice_index_or, unwrap_or, Some, vec_capacity, vec_len}
+use Rattle.std.specs.Prelude.{◌≡◌, ◌≤◌, ℕ, ◌+◌, Bool, false, Contains, List, [], ◌∷◌, ◌++◌, length, map, slice_get, slice_index_or, unwrap_or, Some, vec_capacity}
 use Rattle.std.specs.List.{list_any}
 use Rattle.vl_values.specs.declared.value.Value.TheVariants.{Null}
 use Rattle.vl_values.specs.Value.{is_null}

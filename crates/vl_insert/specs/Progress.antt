@@ -1,8 +1,10 @@
 -- How far an INSERT has come: the task in progress, those behind it, and what is left after one.
-use Rattle.std.specs.Prelude.{ℕ, ◌+◌, Bool, ◌||◌, true, List, drop, slice_get, Option, Some, None}
+use Rattle.std.specs.Prelude.{ℕ, ◌+◌, Bool, ◌||◌, List, drop, slice_get, Option, Some}
 use Rattle.std.specs.List.{sum_by}
-use Rattle.std.specs.Option.{option_map_or}
-use Rattle.vl_lookup.specs.Progress.{Progress as Claiming, acts_left}
+use Rattle.std.specs.Option.{option_map, option_map_or}
+use Rattle.vl_values.specs.declared.group.Group.{Group}
+use Rattle.vl_values.specs.declared.group.Group.TheVariants.{Main}
+use Rattle.vl_lookup.specs.Progress.{Progress as Claiming, acts_left, due as claim_due}
 use Rattle.vl_insert.specs.declared.task.Task.{Task}
 use Rattle.vl_insert.specs.declared.task.Task.TheVariants as tasks
 
@@ -14,6 +16,15 @@ pub record Progress : Type 0 where
   pub rows : ℕ
   pub wrote : Bool
   pub tries : ℕ
+
+-- the group and the shard of the session that the next action of a task goes by
+abbrev pub session_for : Task → Group × ℕ
+session_for (tasks.Claim claim) = ((claim_due claim).group, (claim_due claim).shard)
+session_for (tasks.Row insertion) = (Main, insertion.shard)
+
+-- those of the action that is due
+abbrev pub session_due : Progress → Option (Group × ℕ)
+session_due p = option_map session_for p.task
 
 -- the claim in progress has come as far as this
 abbrev pub at_claim : Claiming → Progress → Progress

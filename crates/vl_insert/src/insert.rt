@@ -14,14 +14,14 @@ ghost use Rattle.vl_rules.specs.Order.{Checked};
 ghost use Rattle.vl_statement.specs.declared.program_told.ProgramTold.TheVariants.{More};
 ghost use Rattle.vl_insert.specs.declared.groundwork.Groundwork.{Groundwork as AGroundwork};
 ghost use Rattle.vl_insert.specs.declared.task.Task.TheVariants as tasks;
-ghost use Rattle.vl_insert.specs.Answering.{ClaimMeans, Goes, IsRefusedFor, RowAnswered, Waits, is_writing, refused_now, reply_of};
+ghost use Rattle.vl_insert.specs.Answering.{AwaitsKey, ClaimMeans, Goes, RowAnswered, is_writing, refused_now, reply_of};
 ghost use Rattle.vl_insert.specs.Begun.{IsBegun, beginning};
 ghost use Rattle.vl_statement.specs.Effects.{HasLocksOf, HasPendingOf, IsWell, LeavesOpen};
 ghost use Rattle.vl_insert.specs.Laying.{with_rows};
 ghost use Rattle.vl_insert.specs.Making.{IsMade};
-ghost use Rattle.vl_insert.specs.Progress.{Progress, actions_left, with_task};
+ghost use Rattle.vl_insert.specs.Progress.{Progress, actions_left, session_due, with_task};
 ghost use Rattle.vl_insert.specs.Stepping.{Stepped};
-ghost use Rattle.vl_statement.specs.Refusing.{duplicate_entry, duplicate_row, limit_of_changes, removed_and_claimed};
+ghost use Rattle.vl_statement.specs.Refusing.{IsRefusedFor, duplicate_entry, duplicate_row, limit_of_changes, removed_and_claimed};
 
 use crate::groundwork::Groundwork;
 use crate::laying::{filled, lay};
@@ -40,10 +40,10 @@ use vl_port::tx_state::TxState;
 use vl_route::home::each_covers;
 use vl_statement::program_told::ProgramTold;
 use vl_statement::refusing::{
-    device_failed, duplicate_entry, duplicate_row, limit_of_changes, lock_wait,
-    removed_and_claimed, session_lost,
+    device_failed, duplicate_entry, duplicate_row, limit_of_changes, removed_and_claimed,
+    session_lost,
 };
-use vl_statement::telling::{done, refused, refused_for, refused_whole};
+use vl_statement::telling::{done, refused, refused_for, refused_whole, wait};
 use vl_values::cause::Cause;
 use vl_values::group::Group;
 use vl_values::key::Key;
@@ -116,6 +116,17 @@ impl Insert {
         }
     }
 
+    /// The group and the shard of the session that the action which is due goes by; None where no task is left.
+    pub fn due_session(&self) -> Option<(Group, ShardNo)>
+        ensures { result ≡ session_due self.now }
+    {
+        match &self.task {
+            Some(Task::Claim(claim)) => Some(claim.session()),
+            Some(Task::Row(insertion)) => Some((Group::Main, insertion.shard)),
+            None => None,
+        }
+    }
+
     fn reply(&self, tx: &TxState) -> ProgramTold
         ensures { result ≡ reply_of tx.now self.now }
     {
@@ -148,6 +159,7 @@ impl Insert {
     }
 
     // The action was answered `Held`: it is tried again, or the statement is refused.
+    #[tactic(auto, using(vl_statement::proofs::Waited::waited))]
     fn wait(
         &mut self,
         alloc: Global,
@@ -157,22 +169,17 @@ impl Insert {
         key: Key,
     ) -> ProgramTold
         requires { self.old.tries < tx.now.limits.tries }
-        ensures { Waits catalog.now tx.now self.old by key result self.new }
+        ensures { AwaitsKey catalog.now tx.now self.old by key result self.new }
     {
-        let limit = tx.limits.tries;
-        let tries = self.tries + 1;
-        if tries < limit {
-            self.tries = tries;
-            return ProgramTold::Held { by, key, tries };
-        }
-        let why = lock_wait(alloc, catalog, limit, by, &key);
-        refused_for(tx, self.wrote, why)
+        let told = wait(alloc, catalog, tx, self.wrote, self.tries, by, key);
+        self.tries += 1;
+        told
     }
 
     // The transaction itself removes the entry that is claimed.
     fn crossed(&self, alloc: Global, catalog: &Catalog, tx: &TxState) -> ProgramTold
         requires { (claim : Claiming) × (self.now.task ≡ Some (tasks.Claim claim)) }
-        ensures { (claim : Claiming) → self.now.task ≡ Some (tasks.Claim claim) → IsRefusedFor tx.now self.now result (removed_and_claimed catalog.now claim.lookup claim.row) }
+        ensures { (claim : Claiming) → self.now.task ≡ Some (tasks.Claim claim) → IsRefusedFor tx.now self.now.wrote result (removed_and_claimed catalog.now claim.lookup claim.row) }
     {
         match &self.task {
             Some(Task::Claim(claim)) => {
@@ -195,7 +202,7 @@ impl Insert {
     ) -> ProgramTold
         requires checked { Checked catalog.now }
         requires claim { (claim : Claiming) × (self.now.task ≡ Some (tasks.Claim claim)) }
-        ensures { (claim : Claiming) → self.now.task ≡ Some (tasks.Claim claim) → IsRefusedFor tx.now self.now result (duplicate_entry catalog.now lookup claim.row shard key.now) }
+        ensures { (claim : Claiming) → self.now.task ≡ Some (tasks.Claim claim) → IsRefusedFor tx.now self.now.wrote result (duplicate_entry catalog.now lookup claim.row shard key.now) }
     {
         match &self.task {
             Some(Task::Claim(claim)) => {

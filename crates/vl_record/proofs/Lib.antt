@@ -5,3 +5,6 @@ pub mod Signed
 pub mod ReadBack
 pub mod ReadFile
 pub mod Putting
+pub mod Taken
+pub mod TakenFile
+pub mod Recorded

@@ -18,7 +18,7 @@ use Rattle.vl_record.proofs.Numbers.{and_then, byte_again, number_again, rest, w
 use Rattle.vl_record.proofs.ReadBack.{Again, key_again, many_again, part_again, row_again, within_again}
 
 -- the parts of a record stand in no order
-moved : (catalog : Catalog) (shard : ℕ) (front other parts : List Part) → EachNext (IsNextPart catalog shard) front parts → EachNext (IsNextPart catalog shard) other parts
+pub moved : (catalog : Catalog) (shard : ℕ) (front other parts : List Part) → EachNext (IsNextPart catalog shard) front parts → EachNext (IsNextPart catalog shard) other parts
 moved catalog shard front other [] each = tt
 moved catalog shard front other (part ∷ parts) each = (each.0, moved catalog shard (front ++ part ∷ []) (other ++ part ∷ []) parts each.1)
 

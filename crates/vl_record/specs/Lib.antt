@@ -4,3 +4,4 @@ pub mod Reading
 pub mod Readers
 pub mod Grammar
 pub mod Writing
+pub mod Stored

@@ -10,7 +10,9 @@ mod part;
 mod read_error;
 mod reader;
 mod reading;
+mod record;
 mod records;
+mod side;
 mod value;
 mod writing;
 
@@ -18,6 +20,8 @@ pub use crate::file::is_open;
 pub use crate::held::Held;
 pub use crate::read_error::ReadError;
 pub use crate::reading::read;
+pub use crate::record::put_record;
+pub use crate::side::new_side;
 pub use crate::writing::{put_change, put_part};
 
 #[cfg(test)]

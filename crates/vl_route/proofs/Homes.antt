@@ -31,7 +31,8 @@ first_passes : {X : Type 0} (p : X → Bool) (xs : List X) → 0 < count_by p xs
 first_passes p [] some = absurd (omega (arith, some))
 first_passes p (x ∷ xs) some = head_passes (p x) (position_or_len p xs) (length xs) (count_by p xs) (count_by p (x ∷ xs)) (sum_by-cons (λ y. cond (p y) 1 0) x xs) some (first_passes p xs)
 
-ring_holds : (rings : List (List Range)) (k : ℕ) (ksid : List ℕ) → CoversOnce (get_or rings k []) → shard_in rings k ksid < shard_count rings
+-- a keyspace id is in a ring that covers each once, so its shard is one of the catalog's
+pub ring_holds : (rings : List (List Range)) (k : ℕ) (ksid : List ℕ) → CoversOnce (get_or rings k []) → shard_in rings k ksid < shard_count rings
 ring_holds rings k ksid covers =
     let once = covers ksid in
     let below = first_passes (λ (range : Range). is_in range ksid) (get_or rings k []) (omega (arith, once)) in
@@ -44,7 +45,7 @@ covered rings k ring within is covers =
 
 -- ---- the place of a row
 
-by_ksid : (rings : List (List Range)) (k : ℕ) (o : Option (List ℕ)) (shard : ℕ) → CoversOnce (get_or rings k []) → option_map (shard_in rings k) o ≡ Some shard → shard < shard_count rings
+pub by_ksid : (rings : List (List Range)) (k : ℕ) (o : Option (List ℕ)) (shard : ℕ) → CoversOnce (get_or rings k []) → option_map (shard_in rings k) o ≡ Some shard → shard < shard_count rings
 by_ksid rings k None shard covers e = absurd (cc)
 by_ksid rings k (Some ksid) shard covers e = subst (λ (s : ℕ). s < shard_count rings) (same_Some (shard_in rings k ksid) shard e) (ring_holds rings k ksid covers)
 

@@ -17,19 +17,13 @@ use Rattle.vl_port.specs.Transaction.{listed}
 use Rattle.vl_port.specs.View.{Values}
 use Rattle.vl_statement.specs.declared.program_told.ProgramTold.{ProgramTold}
 use Rattle.vl_statement.specs.Refusing.{refused}
-use Rattle.vl_select.specs.Answering.{Answered, Goes, GoesTo, Takes, TakesOf, WaitsOn}
-use Rattle.vl_select.specs.Progress.{Action, Progress, due, passed, with_entries, with_rows}
+use Rattle.vl_statement.proofs.Waited.{told_alike, told_by, waits_for}
+use Rattle.vl_select.specs.Answering.{Answered, Goes, GoesTo, Takes, TakesOf}
+use Rattle.vl_select.specs.Progress.{Action, Progress, due, passed, with_entries, with_rows, with_try}
 use Rattle.vl_select.specs.Stepping.{Locked, Looked, NoRoom, Stepped}
 use Rattle.vl_select.proofs.Dues.{IsAt}
 
 -- ---- the transaction is the same but for its list of sessions
-
--- the transaction with what an answer is told by: whose it is, and its limits
-abbrev told_by : TxState → TxState → TxState
-told_by tx new = record tx { limits = new.limits; auto = new.auto; single = new.single }
-
-told_alike : (tx new : TxState) → IsSameTx tx new → told_by tx new ≡ tx
-told_alike tx new same = λ i. record tx { limits = same.limits i; auto = same.auto i; single = same.single i }
 
 goes_for : (catalog : Catalog) (tx new : TxState) (o : Option Action) (p : Progress) (tells : ProgramTold) (after : Progress) → GoesTo catalog new o p tells after → GoesTo catalog (told_by tx new) o p tells after
 goes_for catalog tx new None p tells after h = h
@@ -47,14 +41,10 @@ takes_of_for : (catalog : Catalog) (tx new : TxState) (b : Bool) (old : Progress
 takes_of_for catalog tx new true old rows tells after h = or_goes_for catalog tx new (with_entries catalog rows old) tells after h
 takes_of_for catalog tx new false old rows tells after h = takes_for catalog tx new (passed old.what new.limits old.tally rows) old rows tells after h
 
-waits_for : (catalog : Catalog) (tx new : TxState) (b : Bool) (old : Progress) (by : ℕ) (key : Key) (tells : ProgramTold) (after : Progress) → WaitsOn catalog new b old by key tells after → WaitsOn catalog (told_by tx new) b old by key tells after
-waits_for catalog tx new true old by key tells after h = h
-waits_for catalog tx new false old by key tells after h = h
-
 answer_for : (catalog : Catalog) (tx new : TxState) (old : Progress) (action : Action) (session : Bool) (answer : Answer) (tells : ProgramTold) (after : Progress) → Answered catalog new old action session answer tells after
     → Answered catalog (told_by tx new) old action session answer tells after
 answer_for catalog tx new old action session (Rows rows) tells after h = takes_of_for catalog tx new (nat_lt old.looked (length old.entries)) old rows tells after h
-answer_for catalog tx new old action session (Held by key) tells after h = waits_for catalog tx new (nat_lt (old.tries + 1) new.limits.tries) old by key tells after h
+answer_for catalog tx new old action session (Held by key) tells after h = waits_for catalog tx new (nat_lt (old.tries + 1) new.limits.tries) false old.tries by key tells (with_try old) after h
 answer_for catalog tx new old action session (Limit what count) tells after h = h
 answer_for catalog tx new old action session (Lost why) tells after h = h
 answer_for catalog tx new old action session Device tells after h = h
@@ -67,7 +57,7 @@ answer_for catalog tx new old action session (Found key row) tells after h = h
 answered_for : (catalog : Catalog) (tx new : TxState) (old : Progress) (action : Action) (session : Bool) (answer : Answer) (tells : ProgramTold) (after : Progress) → IsSameTx tx new → Answered catalog new old action session answer tells after
     → Answered catalog tx old action session answer tells after
 answered_for catalog tx new old action session answer tells after same answered =
-    subst (λ (t : TxState). Answered catalog t old action session answer tells after) (told_alike tx new same) (answer_for catalog tx new old action session answer tells after answered)
+    subst (λ (t : TxState). Answered catalog t old action session answer tells after) (told_alike tx new same.limits same.auto same.single) (answer_for catalog tx new old action session answer tells after answered)
 
 -- ---- the step
 

@@ -1,16 +1,15 @@
 -- The program of a plan that fits the catalog is made.
-use Rattle.std.proofs.Common.{◌≡◌, ℕ, zero, suc, ◌+◌, ◌<◌, ◌≤◌, ◌∙◌, Bool, true, false, cond, not, List, [], ◌∷◌, length, get_or, map, Option, Some, None, refl, sym, ap, subst, arith}
+use Rattle.std.proofs.Common.{◌≡◌, ℕ, zero, suc, ◌<◌, ◌≤◌, ◌∙◌, true, List, [], ◌∷◌, length, get_or, map, Option, Some, None, refl, sym, ap, subst, arith}
 use Rattle.std.specs.Prelude.{Contains, nat_lt, option_and_then, slice_get}
-use Rattle.std.specs.List.{cons_option, count_by, filter_map, position_or_len}
+use Rattle.std.specs.List.{cons_option, filter_map}
 use Rattle.std.specs.Option.{option_map, option_map_or}
-use Rattle.std.proofs.lemmas.List.Sums.{sum_by-cons}
 use Rattle.std.proofs.lemmas.Option.{same_Some, slice_get-get_or}
 use Rattle.vl_values.specs.declared.group.Group.{Group}
 use Rattle.vl_values.specs.declared.pred.Pred.{Pred}
 use Rattle.vl_values.specs.declared.test.Test.{Test}
 use Rattle.vl_values.specs.declared.value.Value.{Value}
 use Rattle.vl_values.specs.Fit.{is_of_type}
-use Rattle.vl_vindex.specs.KeyRange.{Range, is_in}
+use Rattle.vl_vindex.specs.KeyRange.{Range}
 use Rattle.vl_vindex.specs.Ring.{CoversOnce}
 use Rattle.vl_catalog.specs.declared.catalog.Catalog.{Catalog}
 use Rattle.vl_catalog.specs.declared.column.Column.{Column}
@@ -18,7 +17,7 @@ use Rattle.vl_catalog.specs.declared.lookup.Lookup.{Lookup}
 use Rattle.vl_catalog.specs.declared.primary.Primary.{Primary}
 use Rattle.vl_catalog.specs.declared.table.Table.{Table}
 use Rattle.vl_catalog.specs.Fitting.{FitsPred, IsTestOf}
-use Rattle.vl_catalog.specs.Place.{place_of_value, shard_count, shard_in, value_place_by}
+use Rattle.vl_catalog.specs.Place.{place_of_value, shard_count, value_place_by}
 use Rattle.vl_rules.specs.Kept.{HaveOneType, IsIn, IsKeptLookup}
 use Rattle.vl_rules.specs.Order.{Checked}
 use Rattle.vl_rules.proofs.LookupsKept.{lookup_kept}
@@ -26,7 +25,7 @@ use Rattle.vl_rules.proofs.TablesKept.{table_kept}
 use Rattle.vl_model.specs.declared.route.Route.{Route}
 use Rattle.vl_model.specs.declared.route.Route.TheVariants as routes
 use Rattle.vl_model.specs.Visiting.{entries_with, entry_read_in, entry_reads, entry_reads_by, entry_reads_in}
-use Rattle.vl_route.proofs.Homes.{AreCovering, shards_within}
+use Rattle.vl_route.proofs.Homes.{AreCovering, by_ksid, ring_holds}
 use Rattle.vl_plan.specs.declared.select_plan.SelectPlan.{SelectPlan}
 use Rattle.vl_plan.specs.Fits.{FitsRoute, FitsSelect, IsByLookup}
 use Rattle.vl_select.specs.declared.entry_read.EntryRead.{EntryRead}
@@ -61,25 +60,6 @@ gathered_from h [] y among = absurd (omega (arith, among.1))
 gathered_from h (x ∷ xs) y among = gathered_head h x xs (h x) y refl (gathered_from h xs) among
 
 -- ---- the place of a value
-
-head_passes : (b : Bool) (n len count total : ℕ) → total ≡ cond b 1 0 + count → 0 < total → (0 < count → n < len) → cond (not b) (1 + n) 0 < suc len
-head_passes true n len count total is some rest = omega arith
-head_passes false n len count total is some rest = let r = rest (omega (arith, is, some)) in omega (arith, r)
-
--- where some element passes, the first that does is one of the list
-first_passes : {X : Type 0} (p : X → Bool) (xs : List X) → 0 < count_by p xs → position_or_len p xs < length xs
-first_passes p [] some = absurd (omega (arith, some))
-first_passes p (x ∷ xs) some = head_passes (p x) (position_or_len p xs) (length xs) (count_by p xs) (count_by p (x ∷ xs)) (sum_by-cons (λ y. cond (p y) 1 0) x xs) some (first_passes p xs)
-
-ring_holds : (rings : List (List Range)) (k : ℕ) (ksid : List ℕ) → CoversOnce (get_or rings k []) → shard_in rings k ksid < shard_count rings
-ring_holds rings k ksid covers =
-    let once = covers ksid in
-    let below = first_passes (λ (range : Range). is_in range ksid) (get_or rings k []) (omega (arith, once)) in
-    omega (arith, below, shards_within rings k)
-
-by_ksid : (rings : List (List Range)) (k : ℕ) (o : Option (List ℕ)) (shard : ℕ) → CoversOnce (get_or rings k []) → option_map (shard_in rings k) o ≡ Some shard → shard < shard_count rings
-by_ksid rings k None shard covers e = absurd (cc)
-by_ksid rings k (Some ksid) shard covers e = subst (λ (s : ℕ). s < shard_count rings) (same_Some (shard_in rings k ksid) shard e) (ring_holds rings k ksid covers)
 
 by_primary : (rings : List (List Range)) (k : ℕ) (o : Option Primary) (value : Value) (shard : ℕ) → CoversOnce (get_or rings k []) → value_place_by rings k o value ≡ Some shard → shard < shard_count rings
 by_primary rings k None value shard covers e = omega (arith, ring_holds rings k [] covers, same_Some _ shard e)

@@ -1,11 +1,9 @@
 pub mod Asked
 pub mod Beginning
-pub mod Counting
 pub mod Dues
 pub mod Gathered
 pub mod Named
 pub mod Ordered
-pub mod Reached
 pub mod Short
 pub mod Steps
 pub mod Unmoved

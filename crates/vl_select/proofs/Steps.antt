@@ -23,7 +23,8 @@ use Rattle.vl_statement.specs.declared.program_told.ProgramTold.{ProgramTold}
 use Rattle.vl_statement.specs.declared.program_told.ProgramTold.TheVariants as told
 use Rattle.vl_statement.specs.Effects.{HasLocksOf, HasPendingOf, IsWell, LeavesOpen}
 use Rattle.vl_statement.specs.Refusing.{device_failed, lock_wait, refused, refused_whole}
-use Rattle.vl_select.specs.Answering.{Answered, Ends, Goes, GoesOn, GoesTo, Takes, TakesOf, WaitsOn, loss}
+use Rattle.vl_statement.specs.Waiting.{WaitsOn}
+use Rattle.vl_select.specs.Answering.{Answered, Ends, Goes, GoesOn, GoesTo, Takes, TakesOf, loss}
 use Rattle.vl_select.specs.Making.{IsMade}
 use Rattle.vl_select.specs.Progress.{Action, IsNearer, Progress, acts_done, due, passed, shards_known, with_entries, with_rows, with_try}
 use Rattle.vl_select.specs.Stepping.{Idle, Locked, Looked, NoRoom, Stepped}
@@ -103,7 +104,7 @@ takes_of : (catalog : Catalog) (tx : TxState) (limit : ℕ) (b : Bool) (old new 
 takes_of catalog tx limit true old new rows tells is goes on = Entered rows is (or_goes catalog tx (with_entries catalog rows old) new tells goes on)
 takes_of catalog tx limit false old new rows tells is goes on = Read rows is (takes catalog tx (passed old.what tx.limits old.tally rows) old new rows tells goes on)
 
-waits : (catalog : Catalog) (tx : TxState) (b : Bool) (old new : Progress) (by : ℕ) (key : Key) (tells : ProgramTold) → nat_lt (old.tries + 1) tx.limits.tries ≡ b → WaitsOn catalog tx b old by key tells new → GoesOn tells
+waits : (catalog : Catalog) (tx : TxState) (b : Bool) (old new : Progress) (by : ℕ) (key : Key) (tells : ProgramTold) → nat_lt (old.tries + 1) tx.limits.tries ≡ b → WaitsOn catalog tx b false old.tries by key tells (with_try old) new → GoesOn tells
     → Went catalog tx.limits.tries old tells new
 waits catalog tx true old new by key tells is waits_on on = Waited by key is waits_on.0 waits_on.1
 waits catalog tx false old new by key tells is (inl refused_is) on = refusal_over tx tells causes.OutOfMemory refused_is on

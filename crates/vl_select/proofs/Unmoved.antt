@@ -1,5 +1,5 @@
 -- Which answers a read may get, and what it leaves as it was.
-use Rattle.std.proofs.Common.{◌≡◌, ◌⊎◌, ℕ, inl, inr, Bool, Some, sym, ap, ◌∙◌, subst}
+use Rattle.std.proofs.Common.{◌≡◌, ℕ, Bool, Some, ap, ◌∙◌, subst}
 use Rattle.vl_values.specs.declared.key.Key.{Key}
 use Rattle.vl_values.specs.declared.pred.Pred.{Pred}
 use Rattle.vl_port.specs.declared.act.Act.{Act}
@@ -9,12 +9,11 @@ use Rattle.vl_port.specs.declared.answer.Answer.TheVariants.{Done, Unchanged, Ro
 use Rattle.vl_port.specs.declared.who.Who.{Who}
 use Rattle.vl_port.specs.Acting.{Acted}
 use Rattle.vl_port.specs.Calls.{HasActed, PortView}
-use Rattle.vl_port.specs.Life.{Reaches}
 use Rattle.vl_port.specs.Serving.{Shards}
 use Rattle.vl_port.specs.View.{View}
-use Rattle.vl_port.proofs.Leaving.{same_or_other}
+use Rattle.vl_statement.proofs.Leaving.{IsSpared, act_holds, act_pends}
+use Rattle.vl_statement.proofs.Reached.{IsOfAct, done_there}
 use Rattle.vl_select.specs.Answering.{IsReadAnswer}
-use Rattle.vl_select.proofs.Reached.{IsOfAct, acted_holds, done_there, memory_leaves, reached_holder, reached_pending}
 
 -- ---- answers
 
@@ -46,22 +45,6 @@ keeps_same old new same = record {
   holder = λ shard key other held. ap (λ (v : PortView). (v.shards shard).holder key) same ∙ held;
 }
 
--- the shard of a read keeps them, and the others show what they did
-of_shard : (port after : PortView) (who : Who) (shard : ℕ) (act : Act) (answer : Answer) → HasActed port who shard act answer after → ((key : Key) → (after.shards shard).pending key ≡ (port.shards shard).pending key)
-    → ((key : Key) (other : Who) → (port.shards shard).holder key ≡ Some other → (after.shards shard).holder key ≡ Some other) → Keeps port.shards after.shards
-of_shard port after who shard act answer acts pending holder = record {
-  pending = λ s key.
-      elim (same_or_other s shard) [
-        | inl at ↦ subst (λ (n : ℕ). (after.shards n).pending key ≡ (port.shards n).pending key) (sym at) (pending key)
-        | inr other ↦ ap (λ (v : View). v.pending key) (acts.others s other)
-      ];
-  holder = λ s key by held.
-      elim (same_or_other s shard) [
-        | inl at ↦ subst (λ (n : ℕ). (after.shards n).holder key ≡ Some by) (sym at) (holder key by (subst (λ (n : ℕ). (port.shards n).holder key ≡ Some by) at held))
-        | inr other ↦ ap (λ (v : View). v.holder key) (acts.others s other) ∙ held
-      ];
-}
-
 -- the answers that leave all as it was
 abbrev pub IsKept : Answer → Type 0
 IsKept (Rows rows) = Unit {0}
@@ -74,41 +57,20 @@ IsKept Done = ⊥
 IsKept Unchanged = ⊥
 IsKept (Found key row) = ⊥
 
-rows_pend : (old new : View) (who : Who) (act : Act) (answer : Answer) (key : Key) → IsKept answer → IsOfAct answer → Acted old who act answer new → new.pending key ≡ old.pending key
-rows_pend old new who act (Rows rows) key kept of acted = ap (λ (v : View). v.pending key) acted.2
-rows_pend old new who act (Held by k) key kept of acted = ap (λ (v : View). v.pending key) acted.1
-rows_pend old new who act (Limit what count) key kept of acted = ap (λ (v : View). v.pending key) acted.2
-rows_pend old new who act Memory key kept of acted = absurd of
-rows_pend old new who act (Lost why) key kept of acted = absurd of
-rows_pend old new who act Device key kept of acted = absurd of
-rows_pend old new who act Done key kept of acted = absurd kept
-rows_pend old new who act Unchanged key kept of acted = absurd kept
-rows_pend old new who act (Found k row) key kept of acted = absurd kept
-
-by_act : (port after : PortView) (who : Who) (shard : ℕ) (act : Act) (answer : Answer) → IsKept answer → IsOfAct answer → HasActed port who shard act answer after → Keeps port.shards after.shards
-by_act port after who shard act answer kept of acts =
-    let done = done_there port after who shard act answer of acts in
-    of_shard port after who shard act answer acts
-    (λ key. rows_pend done.there (after.shards shard) who act answer key kept of done.acted ∙ reached_pending (port.shards shard) done.there key done.reached)
-    (λ key other held. acted_holds done.there (after.shards shard) who other act answer key (reached_holder (port.shards shard) done.there key done.reached ∙ held) done.acted)
-
-leaves_pend : (old new : View) (key : Key) → (new ≡ old) ⊎ Reaches old new → new.pending key ≡ old.pending key
-leaves_pend old new key (inl same) = ap (λ (v : View). v.pending key) same
-leaves_pend old new key (inr reached) = reached_pending old new key reached
-
-leaves_hold : (old new : View) (other : Who) (key : Key) → (new ≡ old) ⊎ Reaches old new → old.holder key ≡ Some other → new.holder key ≡ Some other
-leaves_hold old new other key (inl same) held = ap (λ (v : View). v.holder key) same ∙ held
-leaves_hold old new other key (inr reached) held = reached_holder old new key reached ∙ held
+-- after them the session lives on, and nothing was written
+kept_spared : (answer : Answer) → IsKept answer → IsSpared answer
+kept_spared (Rows rows) kept = tt
+kept_spared (Held by key) kept = tt
+kept_spared (Limit what count) kept = tt
+kept_spared Memory kept = tt
+kept_spared (Lost why) kept = absurd kept
+kept_spared Device kept = absurd kept
+kept_spared Done kept = absurd kept
+kept_spared Unchanged kept = absurd kept
+kept_spared (Found key row) kept = absurd kept
 
 pub read_keeps : (port after : PortView) (who : Who) (shard : ℕ) (act : Act) (answer : Answer) → IsKept answer → HasActed port who shard act answer after → Keeps port.shards after.shards
-read_keeps port after who shard act (Rows rows) kept acts = by_act port after who shard act (Rows rows) kept tt acts
-read_keeps port after who shard act (Held by key) kept acts = by_act port after who shard act (Held by key) kept tt acts
-read_keeps port after who shard act (Limit what count) kept acts = by_act port after who shard act (Limit what count) kept tt acts
-read_keeps port after who shard act Memory kept acts =
-    let left = memory_leaves after.way (port.shards shard) (after.shards shard) who act acts.acted in
-    of_shard port after who shard act Memory acts (λ key. leaves_pend (port.shards shard) (after.shards shard) key left) (λ key other held. leaves_hold (port.shards shard) (after.shards shard) other key left held)
-read_keeps port after who shard act (Lost why) kept acts = absurd kept
-read_keeps port after who shard act Device kept acts = absurd kept
-read_keeps port after who shard act Done kept acts = absurd kept
-read_keeps port after who shard act Unchanged kept acts = absurd kept
-read_keeps port after who shard act (Found key row) kept acts = absurd kept
+read_keeps port after who shard act answer kept acts = record {
+  pending = λ s key. act_pends port after who shard act answer s key (kept_spared answer kept) (λ done. subst IsKept done kept) acts;
+  holder = λ s key other held. act_holds port after who other shard act answer s key (kept_spared answer kept) acts held;
+}

@@ -1,5 +1,5 @@
 -- What a program tells after the answer to its action, and what is left then.
-use Rattle.std.specs.Prelude.{◌≡◌, ℕ, ◌+◌, nat_lt, Bool, true, false, not, List, length, Option, Some, None, ◌⊎◌}
+use Rattle.std.specs.Prelude.{◌≡◌, ℕ, nat_lt, Bool, true, false, not, List, length, Option, Some, None}
 use Rattle.vl_values.specs.declared.cause.Cause.{Cause}
 use Rattle.vl_values.specs.declared.cause.Cause.TheVariants as causes
 use Rattle.vl_values.specs.declared.key.Key.{Key}
@@ -13,14 +13,11 @@ use Rattle.vl_port.specs.declared.tx_state.TxState.{TxState}
 use Rattle.vl_port.specs.View.{Values}
 use Rattle.vl_statement.specs.declared.program_told.ProgramTold.{ProgramTold}
 use Rattle.vl_statement.specs.declared.program_told.ProgramTold.TheVariants as told
-use Rattle.vl_statement.specs.Refusing.{device_failed, lock_wait, read_lost, refused, refused_whole, session_lost}
+use Rattle.vl_statement.specs.Refusing.{OrNoMemory, device_failed, read_lost, refused, refused_whole, session_lost}
+use Rattle.vl_statement.specs.Waiting.{Waits}
 use Rattle.vl_select.specs.Columns.{columns_of}
 use Rattle.vl_select.specs.Progress.{Action, Progress, due, passed, with_entries, with_rows, with_try}
 use Rattle.vl_select.specs.Results.{IsResultOf}
-
--- memory was refused, or else this
-abbrev pub OrNoMemory : TxState → ProgramTold → Type 0 → Type 0
-OrNoMemory tx tells right = (tells ≡ refused tx false causes.OutOfMemory) ⊎ right
 
 -- the result set of the rows that were read. A transaction of its own ends with it
 abbrev pub Answers : Catalog → TxState → Progress → ProgramTold → Type 0
@@ -28,7 +25,7 @@ Answers catalog tx p tells = (rows : List Values) × IsResultOf p.what p.sorts p
 
 -- memory is wanted for the order, the columns and the projected rows
 abbrev pub Ends : Catalog → TxState → Progress → ProgramTold → Type 0
-Ends catalog tx p tells = OrNoMemory tx tells (Answers catalog tx p tells)
+Ends catalog tx p tells = OrNoMemory tx false tells (Answers catalog tx p tells)
 
 -- the next action is due, or the statement is answered
 abbrev pub GoesTo : Catalog → TxState → Option Action → Progress → ProgramTold → Progress → Type 0
@@ -42,23 +39,19 @@ Goes catalog tx after tells new = GoesTo catalog tx (due after) after tells new
 
 -- the rows are kept, or one of them passes a limit
 abbrev pub Takes : Catalog → TxState → Option (Quantity × ℕ) → Progress → List (Key × Values) → ProgramTold → Progress → Type 0
-Takes catalog tx None old rows tells new = OrNoMemory tx tells (Goes catalog tx (with_rows rows old) tells new)
+Takes catalog tx None old rows tells new = OrNoMemory tx false tells (Goes catalog tx (with_rows rows old) tells new)
 Takes catalog tx (Some limit) old rows tells new = tells ≡ refused tx false (causes.Limit limit.0 limit.1)
 
 -- of entries, or of rows
 abbrev pub TakesOf : Catalog → TxState → Bool → Progress → List (Key × Values) → ProgramTold → Progress → Type 0
-TakesOf catalog tx true old rows tells new = OrNoMemory tx tells (Goes catalog tx (with_entries catalog rows old) tells new)
+TakesOf catalog tx true old rows tells new = OrNoMemory tx false tells (Goes catalog tx (with_entries catalog rows old) tells new)
 TakesOf catalog tx false old rows tells new = Takes catalog tx (passed old.what tx.limits old.tally rows) old rows tells new
 
 -- ---- all other answers
 
--- the same action is done again, until it was tried as often as the limit says
-abbrev pub WaitsOn : Catalog → TxState → Bool → Progress → ℕ → Key → ProgramTold → Progress → Type 0
-WaitsOn catalog tx true old by key tells new = (tells ≡ told.Held by key (old.tries + 1)) × (new ≡ with_try old)
-WaitsOn catalog tx false old by key tells new = OrNoMemory tx tells (tells ≡ refused tx false (lock_wait catalog tx.limits.tries by key))
-
-abbrev pub Waits : Catalog → TxState → Progress → ℕ → Key → ProgramTold → Progress → Type 0
-Waits catalog tx old by key tells new = WaitsOn catalog tx (nat_lt (old.tries + 1) tx.limits.tries) old by key tells new
+-- the key that the read must obtain is held by another session. Nothing was written
+abbrev pub AwaitsKey : Catalog → TxState → Progress → ℕ → Key → ProgramTold → Progress → Type 0
+AwaitsKey catalog tx old by key tells new = Waits catalog tx false old.tries by key tells (with_try old) new
 
 -- a session's loss is told with its group; a read without one has none
 abbrev pub loss : Catalog → Action → Bool → LostWhy → Cause
@@ -68,7 +61,7 @@ loss catalog action false why = read_lost catalog action.shard
 -- the answer to a read that was done by a session, or without one. Nothing was written before a refusal
 abbrev pub Answered : Catalog → TxState → Progress → Action → Bool → Answer → ProgramTold → Progress → Type 0
 Answered catalog tx old action session (Rows rows) tells new = TakesOf catalog tx (nat_lt old.looked (length old.entries)) old rows tells new
-Answered catalog tx old action session (Held by key) tells new = Waits catalog tx old by key tells new
+Answered catalog tx old action session (Held by key) tells new = AwaitsKey catalog tx old by key tells new
 Answered catalog tx old action session (Limit what count) tells new = tells ≡ refused tx false (causes.Limit what count)
 Answered catalog tx old action session (Lost why) tells new = tells ≡ refused_whole (loss catalog action session why)
 Answered catalog tx old action session Device tells new = tells ≡ refused_whole (device_failed catalog action.shard)

@@ -7,4 +7,3 @@ pub mod Progress
 pub mod Results
 pub mod Sorting
 pub mod Stepping
-pub mod Tallies

@@ -16,9 +16,9 @@ use Rattle.vl_port.specs.declared.act.Act.{Act}
 use Rattle.vl_port.specs.declared.limits.Limits.{Limits}
 use Rattle.vl_port.specs.View.{Values}
 use Rattle.vl_values.specs.declared.limit.Limit.{Limit}
+use Rattle.vl_statement.specs.declared.tally.Tally.{Tally}
+use Rattle.vl_statement.specs.Tallies.{counted, first_over}
 use Rattle.vl_select.specs.declared.entry_read.EntryRead.{EntryRead}
-use Rattle.vl_select.specs.declared.tally.Tally.{Tally}
-use Rattle.vl_select.specs.Tallies.{counted, first_over}
 
 -- what is answered of the rows, how they are found, and what was read so far. `looked` is how many of the
 -- entries were read, and `read` how many of the shards

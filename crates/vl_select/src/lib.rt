@@ -6,19 +6,19 @@
 //! result set: ordered, cut and projected. The layer above relies on `Stepped`: the read is the one that is
 //! due, it is done once unless it was `Held`, and the reply is that of the port's answer or of the rows.
 //!
-//! What is made of the rows stands apart and knows no port: their limits (`tally`), their order, LIMIT and the
-//! projection (`result`), and the columns (`columns`).
+//! What is made of the rows stands apart and knows no port: their order, LIMIT and the projection (`result`), and
+//! the columns (`columns`).
 #![tactic(auto)]
 
 pub mod columns;
+mod entry_ksids;
 pub mod entry_read;
 mod groundwork;
+mod lost_read;
 mod projecting;
 pub mod result;
 pub mod select;
 mod sorting;
 mod starting;
-pub mod tally;
 #[cfg(test)]
 mod tests;
-pub mod text_length;

@@ -1,5 +1,4 @@
-ghost use Rattle.std.specs.Prelude.{◌≡◌, ◌<◌, ◌≤◌, ◌+◌, ◌⊎◌, ◌++◌, ◌^◌, ℕ, [], IfErr, IfOk, OnOk, length, nat_lt};
-ghost use Rattle.std.specs.List.{cons_option, filter_map};
+ghost use Rattle.std.specs.Prelude.{◌≡◌, ◌<◌, ◌≤◌, ◌+◌, ◌⊎◌, ◌^◌, ℕ, false, [], IfErr, IfOk, OnOk, length, nat_lt};
 ghost use Rattle.std.specs.Option.{option_copied, option_map};
 ghost use Rattle.vl_catalog.specs.Place.{shard_count};
 ghost use Rattle.vl_rules.specs.Order.{Checked};
@@ -14,20 +13,22 @@ ghost use Rattle.vl_port.specs.Taking.{takes_keys};
 ghost use Rattle.vl_port.specs.Transaction.{IsIn, last_tx};
 ghost use Rattle.vl_statement.specs.declared.program_told.ProgramTold.TheVariants.{More};
 ghost use Rattle.vl_statement.specs.Effects.{HasLocksOf, HasPendingOf, IsWell, LeavesOpen};
-ghost use Rattle.vl_select.specs.Answering.{Answered, Ends, Goes, GoesOn, IsReadAnswer, OrNoMemory, Takes, TakesOf, Waits, loss};
+ghost use Rattle.vl_statement.specs.Refusing.{OrNoMemory};
+ghost use Rattle.vl_select.specs.Answering.{Answered, AwaitsKey, Ends, Goes, GoesOn, IsReadAnswer, Takes, TakesOf};
 ghost use Rattle.vl_select.specs.Begun.{begun};
 ghost use Rattle.vl_select.specs.Columns.{columns_of};
 ghost use Rattle.vl_select.specs.Making.{IsMade};
-ghost use Rattle.vl_select.specs.Progress.{Action, IsNearer, acts_done, due, kept, named_on, passed, shards_known, tallied, with_entries, with_rows};
+ghost use Rattle.vl_select.specs.Progress.{Action, IsNearer, acts_done, due, kept, passed, shards_known, tallied, with_entries, with_rows};
 ghost use Rattle.vl_select.specs.Results.{IsResultOf};
 ghost use Rattle.vl_select.specs.Stepping.{Stepped};
 
 use crate::columns::columns_of;
+use crate::entry_ksids::add_named;
 use crate::entry_read::EntryRead;
 use crate::groundwork::Groundwork;
+use crate::lost_read::loss;
 use crate::result::result_of;
 use crate::starting::{group_of, lay};
-use crate::tally::Tally;
 use std::alloc::{AllocError, Global};
 use std::marker::Model;
 use vl_catalog::Catalog;
@@ -43,16 +44,16 @@ use vl_port::found_rows::FoundRows;
 use vl_port::port::ShardPort;
 use vl_port::tx_state::TxState;
 use vl_route::home::each_covers;
-use vl_route::visiting::{ksid_named, visited};
+use vl_route::visiting::visited;
 use vl_statement::program_told::ProgramTold;
-use vl_statement::refusing::{device_failed, lock_wait, read_lost, session_lost};
-use vl_statement::telling::{refused, refused_for, refused_whole};
+use vl_statement::refusing::device_failed;
+use vl_statement::tally::Tally;
+use vl_statement::telling::{refused, refused_whole, wait};
 use vl_values::bytes::Bytes;
 use vl_values::cause::Cause;
 use vl_values::group::Group;
 use vl_values::items::Items;
 use vl_values::key::Key;
-use vl_values::lost_why::LostWhy;
 use vl_values::reply::Reply;
 use vl_values::reply_column::ReplyColumn;
 use vl_values::row::Row;
@@ -131,53 +132,6 @@ fn takes_keys(act: &Act) -> bool
     }
 }
 
-// The keyspace id that an entry names by which the route goes.
-fn named_on(catalog: &Catalog, route: &Route, entry: (Key, Row)) -> Option<Bytes>
-    ensures { result ≡ named_on catalog.now route.now entry }
-{
-    let (_, row) = entry;
-    match route {
-        Route::Lookup(number, _) => ksid_named(catalog, *number, row),
-        Route::Primary(_) | Route::All => None,
-    }
-}
-
-fn add(ksids: &mut Vec<Bytes>, ksid: Option<Bytes>) -> Result<(), AllocError>
-    ensures { OnOk result (ksids.new.items ≡ ksids.old.items ++ cons_option ksid []) }
-{
-    if let Some(ksid) = ksid {
-        ksids.push(ksid)?;
-    }
-    Ok(())
-}
-
-// Adds the keyspace ids that these entries name.
-fn add_named(
-    ksids: &mut Vec<Bytes>,
-    catalog: &Catalog,
-    route: &Route,
-    entries: Vec<(Key, Row)>,
-) -> Result<(), AllocError>
-    ensures { OnOk result (ksids.new.items ≡ ksids.old.items ++ filter_map (named_on catalog.now route.now) entries.items) }
-{
-    for entry in entries {
-        add(ksids, named_on(catalog, route, entry))?;
-    }
-    Ok(())
-}
-
-// The loss of a session, or of a read without one.
-fn loss(catalog: &Catalog, group: Group, shard: ShardNo, session: bool, why: LostWhy) -> Cause
-    requires { Checked catalog.now }
-    ensures { (action : Action) → action.group ≡ group → action.shard ≡ shard → result ≡ loss catalog.now action session why }
-{
-    if session {
-        session_lost(catalog, group, shard, why)
-    } else {
-        read_lost(catalog, shard)
-    }
-}
-
 impl Select {
     /// The program of a SELECT. The plan comes back where memory was refused.
     pub fn start(
@@ -201,8 +155,9 @@ impl Select {
         }
     }
 
-    // The group and the shard of the session that the action which is due goes by.
-    fn due_session(&self) -> Option<(Group, ShardNo)>
+    /// The group and the shard of the session that the read which is due goes by, or would go by; None where
+    /// none is left.
+    pub fn due_session(&self) -> Option<(Group, ShardNo)>
         ensures { result ≡ option_map (λ action. (action.group, action.shard)) (due self.now) }
     {
         if let Some(entry) = self.entries.get(self.looked) {
@@ -315,7 +270,7 @@ impl Select {
     ) -> ProgramTold
         requires shards { shard_count catalog.now.rings < 2 ^ 32 }
         requires looked { self.old.looked < length self.old.entries }
-        ensures { OrNoMemory tx.now result (Goes catalog.now tx.now (with_entries catalog.now entries.items self.old) result self.new) }
+        ensures { OrNoMemory tx.now false result (Goes catalog.now tx.now (with_entries catalog.now entries.items self.old) result self.new) }
     {
         match self.take_entries(alloc, catalog, entries) {
             Ok(()) => self.go(alloc, catalog, tx),
@@ -333,7 +288,7 @@ impl Select {
     ) -> ProgramTold
         requires count { self.old.what ≡ projections.Count }
         requires read { self.old.read < length self.old.shards }
-        ensures { OrNoMemory tx.now result (Goes catalog.now tx.now (with_rows rows.items self.old) result self.new) }
+        ensures { OrNoMemory tx.now false result (Goes catalog.now tx.now (with_rows rows.items self.old) result self.new) }
     {
         // There is no memory for more rows than 64 bits can count.
         let Some(found) = self.tally.rows.checked_add(rows.len() as u64) else {
@@ -357,7 +312,7 @@ impl Select {
         requires read { self.old.read < length self.old.shards }
         requires kept { kept self.old.what rows.items ≡ rows.items }
         requires tally { tally ≡ tallied self.old.what self.old.tally rows.items }
-        ensures { OrNoMemory tx.now result (Goes catalog.now tx.now (with_rows rows.items self.old) result self.new) }
+        ensures { OrNoMemory tx.now false result (Goes catalog.now tx.now (with_rows rows.items self.old) result self.new) }
     {
         let mut rows = rows;
         if self.rows.append(&mut rows).is_err() {
@@ -409,6 +364,7 @@ impl Select {
     }
 
     // The action was answered `Held`: it is tried again, or the statement is refused.
+    #[tactic(auto, using(vl_statement::proofs::Waited::waited))]
     fn wait(
         &mut self,
         alloc: Global,
@@ -418,16 +374,11 @@ impl Select {
         key: Key,
     ) -> ProgramTold
         requires { self.old.tries < tx.now.limits.tries }
-        ensures { Waits catalog.now tx.now self.old by key result self.new }
+        ensures { AwaitsKey catalog.now tx.now self.old by key result self.new }
     {
-        let limit = tx.limits.tries;
-        let tries = self.tries + 1;
-        if tries < limit {
-            self.tries = tries;
-            return ProgramTold::Held { by, key, tries };
-        }
-        let why = lock_wait(alloc, catalog, limit, by, &key);
-        refused_for(tx, false, why)
+        let told = wait(alloc, catalog, tx, false, self.tries, by, key);
+        self.tries += 1;
+        told
     }
 
     // What the answer to a read means that was done by a session, or without one.

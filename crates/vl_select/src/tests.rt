@@ -1,11 +1,11 @@
 use crate::result::result_of;
-use crate::tally::Tally;
 use std::alloc::{AllocError, Global};
 use std::process::Abort;
 use std::test::Fail;
 use vl_plan::projection::Projection;
 use vl_plan::sort::Sort;
 use vl_port::limits::Limits;
+use vl_statement::tally::Tally;
 use vl_values::bytes::Bytes;
 use vl_values::items::Items;
 use vl_values::key::Key;

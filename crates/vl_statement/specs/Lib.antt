@@ -1,2 +1,4 @@
 pub mod Effects
 pub mod Refusing
+pub mod Tallies
+pub mod Waiting

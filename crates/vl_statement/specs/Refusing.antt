@@ -1,5 +1,5 @@
 -- What a statement tells that ends: its reply, or the refusal of a shard's answer.
-use Rattle.std.specs.Prelude.{◌≡◌, ℕ, Bool, false, not, ◌&&◌, List, [], codes, map, slice_get, slice_index_or}
+use Rattle.std.specs.Prelude.{◌≡◌, ◌⊎◌, ℕ, Bool, false, not, ◌&&◌, List, [], codes, map, slice_get, slice_index_or}
 use Rattle.std.specs.Option.{option_map_or}
 use Rattle.vl_values.specs.declared.cause.Cause.{Cause}
 use Rattle.vl_values.specs.declared.cause.Cause.TheVariants as causes
@@ -36,6 +36,14 @@ refused tx wrote cause = told.Reply (refusal cause (not tx.single && not wrote))
 -- statement has written or not
 abbrev pub refused_whole : Cause → ProgramTold
 refused_whole cause = told.Reply (refusal cause false)
+
+-- memory was refused, or else this
+abbrev pub OrNoMemory : TxState → Bool → ProgramTold → Type 0 → Type 0
+OrNoMemory tx wrote tells right = (tells ≡ refused tx wrote causes.OutOfMemory) ⊎ right
+
+-- it is refused for this cause, or for memory, which the cause's text takes
+abbrev pub IsRefusedFor : TxState → Bool → ProgramTold → Cause → Type 0
+IsRefusedFor tx wrote tells cause = OrNoMemory tx wrote tells (tells ≡ refused tx wrote cause)
 
 -- ---- their causes
 

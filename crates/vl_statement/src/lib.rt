@@ -6,4 +6,6 @@
 
 pub mod program_told;
 pub mod refusing;
+pub mod tally;
 pub mod telling;
+pub mod text_length;

@@ -1,0 +1,4 @@
+pub mod Gates
+pub mod Appended
+pub mod Made
+pub mod Loaded

@@ -1,0 +1,5 @@
+pub mod Gate
+pub mod Opening
+pub mod Loading
+pub mod Journals
+pub mod Faults

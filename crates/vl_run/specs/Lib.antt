@@ -1,0 +1,14 @@
+pub mod Allowed
+pub mod Calls
+pub mod Deeds
+pub mod Gathered
+pub mod Local
+pub mod Machine
+pub mod Named
+pub mod Numbers
+pub mod Progress
+pub mod Refused
+pub mod Replays
+pub mod Run
+pub mod Session
+pub mod Trace
