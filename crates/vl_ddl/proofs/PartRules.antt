@@ -24,8 +24,8 @@ use Rattle.vl_ddl.specs.declared.default_value.DefaultValue.{DefaultValue}
 use Rattle.vl_ddl.specs.declared.default_value.DefaultValue.TheVariants as defaults
 use Rattle.vl_ddl.specs.declared.column_options.ColumnOptions.{ColumnOptions}
 use Rattle.vl_ddl.specs.Grammar as grammar
-use Rattle.vl_ddl.specs.Grammar.{given, AreDistinct, FitsType, FitsDefault}
-use Rattle.vl_ddl.specs.Reading.{names_at, new_names_at, columns_at, key_columns_at, number_type_of, text_type_of, number, word, width_at, unsigned_at, number_type_at, text_type_at, type_at, nullable_at, default_of, default_at, auto_increment_at, primary_at, charset_at, collation_at, options_at}
+use Rattle.vl_ddl.specs.Grammar.{given, AreDistinct, FitsType, FitsDefault, FitsUnique}
+use Rattle.vl_ddl.specs.Reading.{names_at, new_names_at, columns_at, key_columns_at, number_type_of, text_type_of, number, word, width_at, unsigned_at, number_type_at, text_type_at, type_at, nullable_at, default_of, default_at, auto_increment_at, primary_at, charset_at, collation_at, unique_at, options_at}
 
 -- any value will do
 abbrev pub free : {A : Type 0} → ℕ → A → Type 0
@@ -478,29 +478,43 @@ primary_rule false = said_law primary_given as_it_is (λ k b. (false && b) ≡ f
 primary_rule true =
     said_law (stops_law (here_rule false) (is_key (codes "PRIMARY")) (λ t h. refl)) as_it_is (λ k b. (true && b) ≡ false) grammar.primary (λ u. false) (λ u. refl) (λ k u h. refl) (λ k u h. refl) primary_none
 
+unique_given : Rule (λ k ts. unique_at true ts) as_it_is free grammar.unique (is_key (codes "UNIQUE"))
+unfolding unique_at
+unique_given = given_law (is_key (codes "UNIQUE")) (Item.Key (codes "UNIQUE") ∷ []) tt (λ k. tt) (made_law (λ u. true) (key_rule (codes "UNIQUE") refl refl)) (λ t h. h)
+
+unique_rule : (wide : Bool) → Rule (λ k ts. unique_at wide ts) as_it_is (λ k b. FitsUnique wide b) grammar.unique (is_key (codes "UNIQUE"))
+unfolding unique_at
+unique_rule true = said_law unique_given as_it_is (λ k b. FitsUnique true b) grammar.unique (λ b. b) (λ b. refl) (λ k b h. refl) (λ k b h. refl) (λ k b h. (b, refl, tt))
+unique_rule false =
+    said_law (stops_law (here_rule false) (is_key (codes "UNIQUE")) (λ t h. refl)) as_it_is (λ k b. FitsUnique false b) grammar.unique (λ u. false) (λ u. refl) (λ k u h. refl) (λ k u h. refl) primary_none
+
 -- what leads the options from one of them on
 
-leads_charset : (g : Tok → Bool) → ((t : Tok) → is_key (codes "CHARACTER") t ≡ true → g t ≡ false) → ((t : Tok) → is_key (codes "COLLATE") t ≡ true → g t ≡ false) → (c o : Bool) → Leads g (grammar.charset c ++ grammar.collation o)
-leads_charset g hc ho c o = leads_both g (grammar.charset c) (grammar.collation o) (given_leads g (Item.Key (codes "CHARACTER")) _ c hc) (given_leads g (Item.Key (codes "COLLATE")) _ o ho)
+leads_collation : (g : Tok → Bool) → ((t : Tok) → is_key (codes "COLLATE") t ≡ true → g t ≡ false) → ((t : Tok) → is_key (codes "UNIQUE") t ≡ true → g t ≡ false) → (o u : Bool) → Leads g (grammar.collation o ++ grammar.unique u)
+leads_collation g ho hu o u = leads_both g (grammar.collation o) (grammar.unique u) (given_leads g (Item.Key (codes "COLLATE")) _ o ho) (given_leads g (Item.Key (codes "UNIQUE")) _ u hu)
 
-leads_primary : (g : Tok → Bool) → ((t : Tok) → is_key (codes "PRIMARY") t ≡ true → g t ≡ false) → ((t : Tok) → is_key (codes "CHARACTER") t ≡ true → g t ≡ false) → ((t : Tok) → is_key (codes "COLLATE") t ≡ true → g t ≡ false)
-    → (p c o : Bool) → Leads g (grammar.primary p ++ (grammar.charset c ++ grammar.collation o))
-leads_primary g hp hc ho p c o = leads_both g (grammar.primary p) (grammar.charset c ++ grammar.collation o) (given_leads g (Item.Key (codes "PRIMARY")) _ p hp) (leads_charset g hc ho c o)
+leads_charset : (g : Tok → Bool) → ((t : Tok) → is_key (codes "CHARACTER") t ≡ true → g t ≡ false) → ((t : Tok) → is_key (codes "COLLATE") t ≡ true → g t ≡ false) → ((t : Tok) → is_key (codes "UNIQUE") t ≡ true → g t ≡ false) → (c o u : Bool) → Leads g (grammar.charset c ++ (grammar.collation o ++ grammar.unique u))
+leads_charset g hc ho hu c o u = leads_both g (grammar.charset c) (grammar.collation o ++ grammar.unique u) (given_leads g (Item.Key (codes "CHARACTER")) _ c hc) (leads_collation g ho hu o u)
+
+leads_primary : (g : Tok → Bool) → ((t : Tok) → is_key (codes "PRIMARY") t ≡ true → g t ≡ false) → ((t : Tok) → is_key (codes "CHARACTER") t ≡ true → g t ≡ false) → ((t : Tok) → is_key (codes "COLLATE") t ≡ true → g t ≡ false) → ((t : Tok) → is_key (codes "UNIQUE") t ≡ true → g t ≡ false)
+    → (p c o u : Bool) → Leads g (grammar.primary p ++ (grammar.charset c ++ (grammar.collation o ++ grammar.unique u)))
+leads_primary g hp hc ho hu p c o u =
+    leads_both g (grammar.primary p) (grammar.charset c ++ (grammar.collation o ++ grammar.unique u)) (given_leads g (Item.Key (codes "PRIMARY")) _ p hp) (leads_charset g hc ho hu c o u)
 
 leads_auto : (g : Tok → Bool) → ((t : Tok) → is_key (codes "AUTO_INCREMENT") t ≡ true → g t ≡ false) → ((t : Tok) → is_key (codes "PRIMARY") t ≡ true → g t ≡ false) → ((t : Tok) → is_key (codes "CHARACTER") t ≡ true → g t ≡ false)
-    → ((t : Tok) → is_key (codes "COLLATE") t ≡ true → g t ≡ false) → (a p c o : Bool) → Leads g (grammar.auto_increment a ++ (grammar.primary p ++ (grammar.charset c ++ grammar.collation o)))
-leads_auto g ha hp hc ho a p c o =
-    leads_both g (grammar.auto_increment a) (grammar.primary p ++ (grammar.charset c ++ grammar.collation o)) (given_leads g (Item.Key (codes "AUTO_INCREMENT")) _ a ha) (leads_primary g hp hc ho p c o)
+    → ((t : Tok) → is_key (codes "COLLATE") t ≡ true → g t ≡ false) → ((t : Tok) → is_key (codes "UNIQUE") t ≡ true → g t ≡ false) → (a p c o u : Bool) → Leads g (grammar.auto_increment a ++ (grammar.primary p ++ (grammar.charset c ++ (grammar.collation o ++ grammar.unique u))))
+leads_auto g ha hp hc ho hu a p c o u =
+    leads_both g (grammar.auto_increment a) (grammar.primary p ++ (grammar.charset c ++ (grammar.collation o ++ grammar.unique u))) (given_leads g (Item.Key (codes "AUTO_INCREMENT")) _ a ha) (leads_primary g hp hc ho hu p c o u)
 
 default_leads : (g : Tok → Bool) → ((t : Tok) → is_key (codes "DEFAULT") t ≡ true → g t ≡ false) → (d : Option DefaultValue) → Leads g (grammar.default d)
 default_leads g h None = tt
 default_leads g h (Some d) = h
 
 leads_default : (g : Tok → Bool) → ((t : Tok) → is_key (codes "DEFAULT") t ≡ true → g t ≡ false) → ((t : Tok) → is_key (codes "AUTO_INCREMENT") t ≡ true → g t ≡ false) → ((t : Tok) → is_key (codes "PRIMARY") t ≡ true → g t ≡ false)
-    → ((t : Tok) → is_key (codes "CHARACTER") t ≡ true → g t ≡ false) → ((t : Tok) → is_key (codes "COLLATE") t ≡ true → g t ≡ false)
-    → (d : Option DefaultValue) (a p c o : Bool) → Leads g (grammar.default d ++ (grammar.auto_increment a ++ (grammar.primary p ++ (grammar.charset c ++ grammar.collation o))))
-leads_default g hd ha hp hc ho d a p c o =
-    leads_both g (grammar.default d) (grammar.auto_increment a ++ (grammar.primary p ++ (grammar.charset c ++ grammar.collation o))) (default_leads g hd d) (leads_auto g ha hp hc ho a p c o)
+    → ((t : Tok) → is_key (codes "CHARACTER") t ≡ true → g t ≡ false) → ((t : Tok) → is_key (codes "COLLATE") t ≡ true → g t ≡ false) → ((t : Tok) → is_key (codes "UNIQUE") t ≡ true → g t ≡ false)
+    → (d : Option DefaultValue) (a p c o u : Bool) → Leads g (grammar.default d ++ (grammar.auto_increment a ++ (grammar.primary p ++ (grammar.charset c ++ (grammar.collation o ++ grammar.unique u)))))
+leads_default g hd ha hp hc ho hu d a p c o u =
+    leads_both g (grammar.default d) (grammar.auto_increment a ++ (grammar.primary p ++ (grammar.charset c ++ (grammar.collation o ++ grammar.unique u)))) (default_leads g hd d) (leads_auto g ha hp hc ho hu a p c o u)
 
 null_leads : (g : Tok → Bool) → ((t : Tok) → is_key (codes "NULL") t ≡ true → g t ≡ false) → ((t : Tok) → is_key (codes "NOT") t ≡ true → g t ≡ false) → (n : Option Bool) → Leads g (grammar.nullable n)
 null_leads g hn ht None = tt
@@ -515,9 +529,9 @@ other_key : (k l : List ℕ) → bytes_eq (str_to_ascii_lowercase k) (str_to_asc
 other_key k l apart t h = key_other k l t apart h
 
 abbrev pub options_more : Tok → Bool
-options_more t = null_more t || (is_key (codes "DEFAULT") t || (is_key (codes "AUTO_INCREMENT") t || (is_key (codes "PRIMARY") t || (is_key (codes "CHARACTER") t || is_key (codes "COLLATE") t))))
+options_more t = null_more t || (is_key (codes "DEFAULT") t || (is_key (codes "AUTO_INCREMENT") t || (is_key (codes "PRIMARY") t || (is_key (codes "CHARACTER") t || (is_key (codes "COLLATE") t || is_key (codes "UNIQUE") t)))))
 
-pub options_rule : (wide has : Bool) → Rule (λ k ts. options_at wide has ts) as_it_is (λ k o. FitsDefault wide o.default × ((has && o.primary) ≡ false)) grammar.options options_more
+pub options_rule : (wide has : Bool) → Rule (λ k ts. options_at wide has ts) as_it_is (λ k o. FitsDefault wide o.default × (((has && o.primary) ≡ false) × FitsUnique wide o.unique)) grammar.options options_more
 unfolding options_at
 options_rule wide has =
     said_law
@@ -526,21 +540,23 @@ options_rule wide has =
     then_law auto_increment_rule (λ a.
     then_law (primary_rule has) (λ p.
     then_law charset_rule (λ c.
-    made_law (λ o. record { nullable = n; default = d; auto_increment = a; primary = p; charset = c; collation = o }) collation_rule)
-    (λ y. given_leads (is_key (codes "CHARACTER")) (Item.Key (codes "COLLATE")) _ y (other_key (codes "COLLATE") (codes "CHARACTER") refl)))
-    (λ y. leads_charset (is_key (codes "PRIMARY")) (other_key (codes "CHARACTER") (codes "PRIMARY") refl) (other_key (codes "COLLATE") (codes "PRIMARY") refl) y.0 y.1))
-    (λ y. leads_primary (is_key (codes "AUTO_INCREMENT")) (other_key (codes "PRIMARY") (codes "AUTO_INCREMENT") refl) (other_key (codes "CHARACTER") (codes "AUTO_INCREMENT") refl) (other_key (codes "COLLATE") (codes "AUTO_INCREMENT") refl) y.0 y.1.0 y.1.1))
-    (λ y. leads_auto (is_key (codes "DEFAULT")) (other_key (codes "AUTO_INCREMENT") (codes "DEFAULT") refl) (other_key (codes "PRIMARY") (codes "DEFAULT") refl) (other_key (codes "CHARACTER") (codes "DEFAULT") refl) (other_key (codes "COLLATE") (codes "DEFAULT") refl)
-    y.0 y.1.0 y.1.1.0 y.1.1.1))
-    (λ y. leads_default null_more (no_null_key (codes "DEFAULT") refl refl) (no_null_key (codes "AUTO_INCREMENT") refl refl) (no_null_key (codes "PRIMARY") refl refl) (no_null_key (codes "CHARACTER") refl refl) (no_null_key (codes "COLLATE") refl refl)
+    then_law collation_rule (λ o.
+    made_law (λ u. record { nullable = n; default = d; auto_increment = a; primary = p; charset = c; collation = o; unique = u }) (unique_rule wide))
+    (λ y. given_leads (is_key (codes "COLLATE")) (Item.Key (codes "UNIQUE")) _ y (other_key (codes "UNIQUE") (codes "COLLATE") refl)))
+    (λ y. leads_collation (is_key (codes "CHARACTER")) (other_key (codes "COLLATE") (codes "CHARACTER") refl) (other_key (codes "UNIQUE") (codes "CHARACTER") refl) y.0 y.1))
+    (λ y. leads_charset (is_key (codes "PRIMARY")) (other_key (codes "CHARACTER") (codes "PRIMARY") refl) (other_key (codes "COLLATE") (codes "PRIMARY") refl) (other_key (codes "UNIQUE") (codes "PRIMARY") refl) y.0 y.1.0 y.1.1))
+    (λ y. leads_primary (is_key (codes "AUTO_INCREMENT")) (other_key (codes "PRIMARY") (codes "AUTO_INCREMENT") refl) (other_key (codes "CHARACTER") (codes "AUTO_INCREMENT") refl) (other_key (codes "COLLATE") (codes "AUTO_INCREMENT") refl) (other_key (codes "UNIQUE") (codes "AUTO_INCREMENT") refl) y.0 y.1.0 y.1.1.0 y.1.1.1))
+    (λ y. leads_auto (is_key (codes "DEFAULT")) (other_key (codes "AUTO_INCREMENT") (codes "DEFAULT") refl) (other_key (codes "PRIMARY") (codes "DEFAULT") refl) (other_key (codes "CHARACTER") (codes "DEFAULT") refl) (other_key (codes "COLLATE") (codes "DEFAULT") refl) (other_key (codes "UNIQUE") (codes "DEFAULT") refl)
     y.0 y.1.0 y.1.1.0 y.1.1.1.0 y.1.1.1.1))
-    as_it_is (λ k o. FitsDefault wide o.default × ((has && o.primary) ≡ false)) grammar.options
-    (λ x. record { nullable = x.0; default = x.1.0; auto_increment = x.1.1.0; primary = x.1.1.1.0; charset = x.1.1.1.1.0; collation = x.1.1.1.1.1 }) (λ x. refl) (λ k x h. (h.1.0, h.1.1.1.0)) (λ k x h. refl)
-    (λ k o h. ((o.nullable, (o.default, (o.auto_increment, (o.primary, (o.charset, o.collation))))), refl, (tt, (h.0, (tt, (h.1, (tt, tt)))))))
+    (λ y. leads_default null_more (no_null_key (codes "DEFAULT") refl refl) (no_null_key (codes "AUTO_INCREMENT") refl refl) (no_null_key (codes "PRIMARY") refl refl) (no_null_key (codes "CHARACTER") refl refl) (no_null_key (codes "COLLATE") refl refl)
+    (no_null_key (codes "UNIQUE") refl refl) y.0 y.1.0 y.1.1.0 y.1.1.1.0 y.1.1.1.1.0 y.1.1.1.1.1))
+    as_it_is (λ k o. FitsDefault wide o.default × (((has && o.primary) ≡ false) × FitsUnique wide o.unique)) grammar.options
+    (λ x. record { nullable = x.0; default = x.1.0; auto_increment = x.1.1.0; primary = x.1.1.1.0; charset = x.1.1.1.1.0; collation = x.1.1.1.1.1.0; unique = x.1.1.1.1.1.1 }) (λ x. refl) (λ k x h. (h.1.0, (h.1.1.1.0, h.1.1.1.1.1.1))) (λ k x h. refl)
+    (λ k o h. ((o.nullable, (o.default, (o.auto_increment, (o.primary, (o.charset, (o.collation, o.unique)))))), refl, (tt, (h.0, (tt, (h.1.0, (tt, (tt, h.1.1))))))))
 
 pub leads_options : (g : Tok → Bool) → ((t : Tok) → is_key (codes "NULL") t ≡ true → g t ≡ false) → ((t : Tok) → is_key (codes "NOT") t ≡ true → g t ≡ false)
     → ((t : Tok) → is_key (codes "DEFAULT") t ≡ true → g t ≡ false) → ((t : Tok) → is_key (codes "AUTO_INCREMENT") t ≡ true → g t ≡ false) → ((t : Tok) → is_key (codes "PRIMARY") t ≡ true → g t ≡ false)
-    → ((t : Tok) → is_key (codes "CHARACTER") t ≡ true → g t ≡ false) → ((t : Tok) → is_key (codes "COLLATE") t ≡ true → g t ≡ false) → (o : ColumnOptions) → Leads g (grammar.options o)
-leads_options g hn ht hd ha hp hc ho o =
-    leads_both g (grammar.nullable o.nullable) (grammar.default o.default ++ (grammar.auto_increment o.auto_increment ++ (grammar.primary o.primary ++ (grammar.charset o.charset ++ grammar.collation o.collation))))
-    (null_leads g hn ht o.nullable) (leads_default g hd ha hp hc ho o.default o.auto_increment o.primary o.charset o.collation)
+    → ((t : Tok) → is_key (codes "CHARACTER") t ≡ true → g t ≡ false) → ((t : Tok) → is_key (codes "COLLATE") t ≡ true → g t ≡ false) → ((t : Tok) → is_key (codes "UNIQUE") t ≡ true → g t ≡ false) → (o : ColumnOptions) → Leads g (grammar.options o)
+leads_options g hn ht hd ha hp hc ho hu o =
+    leads_both g (grammar.nullable o.nullable) (grammar.default o.default ++ (grammar.auto_increment o.auto_increment ++ (grammar.primary o.primary ++ (grammar.charset o.charset ++ (grammar.collation o.collation ++ grammar.unique o.unique)))))
+    (null_leads g hn ht o.nullable) (leads_default g hd ha hp hc ho hu o.default o.auto_increment o.primary o.charset o.collation o.unique)

@@ -23,7 +23,7 @@ use Rattle.vl_ddl.specs.declared.part.Part.{Part}
 use Rattle.vl_ddl.specs.declared.part.Part.TheVariants.{Column, PrimaryKey, Index, OtherKey}
 use Rattle.vl_ddl.specs.declared.statement.Statement.{Statement}
 use Rattle.vl_ddl.specs.Grammar as grammar
-use Rattle.vl_ddl.specs.Grammar.{AreDistinct, FitsType, FitsDefault, Fits, FitsPart, FitsTable, column_names, has_key, Piece, Table, are_matched, pieces}
+use Rattle.vl_ddl.specs.Grammar.{AreDistinct, FitsType, FitsDefault, FitsUnique, Fits, FitsPart, FitsTable, column_names, has_key, Piece, Table, are_matched, pieces}
 use Rattle.vl_ddl.specs.Reading.{column_opening, opening_of, index_at, primary_key_at, column_at, body_at, part_at, parts_at, created_at, missing_at, named_at, table_at}
 use Rattle.vl_ddl.specs.Meaning.{has_pieces, statement_of}
 use Rattle.vl_ddl.proofs.TrailerRule.{trailer_rule}
@@ -160,7 +160,7 @@ abbrev pub goes_on : Tok → Bool
 goes_on t = not (is_mark 44 t || is_mark 41 t)
 
 abbrev FitsBody : Bool → Bool → Part → Type 0
-FitsBody wide has (Column c) = FitsType wide c.ty × (FitsDefault wide c.options.default × ((has && c.options.primary) ≡ false))
+FitsBody wide has (Column c) = FitsType wide c.ty × (FitsDefault wide c.options.default × (((has && c.options.primary) ≡ false) × FitsUnique wide c.options.unique))
 FitsBody wide has (PrimaryKey ns) = HasSome ns × AreDistinct ns
 FitsBody wide has (Index n ns) = HasSome ns
 FitsBody wide has OtherKey = Unit {0}
@@ -214,7 +214,7 @@ abbrev column_made : List ℕ → ColumnParts → Part
 column_made n x = Column (record { name = n; ty = x.0; options = x.1 })
 
 abbrev ColumnFits : Bool → Bool → ColumnParts → Type 0
-ColumnFits wide has x = FitsType wide x.0 × (FitsDefault wide x.1.default × ((has && x.1.primary) ≡ false))
+ColumnFits wide has x = FitsType wide x.0 × (FitsDefault wide x.1.default × (((has && x.1.primary) ≡ false) × FitsUnique wide x.1.unique))
 
 column_back : (wide has : Bool) (n : List ℕ) (k : ℕ) (p : Part) → Behind wide has (openings.Column n) k p → (x : ColumnParts) × (column_made n x ≡ p) × ColumnFits wide has x
 unfolding opening_in
@@ -244,7 +244,7 @@ ends_with t h = by (is_mark 44 t) (is_mark 41 t) refl refl h
 column_ends : (t : Tok) → goes_on t ≡ false → (type_more t || options_more t) ≡ false
 column_ends t h =
     let e = ends_with t h in
-    rw (open_ends t e, key_ends (codes "UNSIGNED") t e, key_ends (codes "NULL") t e, key_ends (codes "NOT") t e, key_ends (codes "DEFAULT") t e, key_ends (codes "AUTO_INCREMENT") t e, key_ends (codes "PRIMARY") t e, key_ends (codes "CHARACTER") t e, key_ends (codes "COLLATE") t e) refl
+    rw (open_ends t e, key_ends (codes "UNSIGNED") t e, key_ends (codes "NULL") t e, key_ends (codes "NOT") t e, key_ends (codes "DEFAULT") t e, key_ends (codes "AUTO_INCREMENT") t e, key_ends (codes "PRIMARY") t e, key_ends (codes "CHARACTER") t e, key_ends (codes "COLLATE") t e, key_ends (codes "UNIQUE") t e) refl
 
 no_type_more : (k : List ℕ) (t : Tok) → is_key k t ≡ true → is_key (codes "UNSIGNED") t ≡ false → type_more t ≡ false
 no_type_more k t h u = or_false (is_mark 40 t) (is_key (codes "UNSIGNED") t) (key_no_mark k 40 t h) u
@@ -263,6 +263,7 @@ column_rule wide has n =
     (λ t h. no_type_more (codes "PRIMARY") t h (key_other (codes "PRIMARY") (codes "UNSIGNED") t refl h))
     (λ t h. no_type_more (codes "CHARACTER") t h (key_other (codes "CHARACTER") (codes "UNSIGNED") t refl h))
     (λ t h. no_type_more (codes "COLLATE") t h (key_other (codes "COLLATE") (codes "UNSIGNED") t refl h))
+    (λ t h. no_type_more (codes "UNIQUE") t h (key_other (codes "UNIQUE") (codes "UNSIGNED") t refl h))
     y))
     goes_on column_ends)
     as_it_is (Behind wide has (openings.Column n)) tail (column_made n) (λ x. refl) (λ k x h. (h, refl)) (λ k x h. refl) (column_back wide has n)
@@ -286,7 +287,7 @@ unfolding opening_in
 part_fits wide names has k o p h = by p (subst (FitsOpening wide names has) (sym h.1.1) h.0) h.1.0
   where
     by : (p : Part) → FitsOpening wide names has (opening_in p) → FitsBody wide has p → Fits wide names has p
-    by (Column c) f b = (f, b.0, b.1.0, b.1.1)
+    by (Column c) f b = (f, b.0, b.1.0, b.1.1.0, b.1.1.1)
     by (PrimaryKey ns) f b = (f, b.0, b.1)
     by (Index n ns) f b = b
     by OtherKey f b = f
@@ -306,7 +307,7 @@ unfolding opening_in
 part_back wide names has k p h = ((opening_in p, p), refl, by p h)
   where
     by : (p : Part) → Fits wide names has p → PartFits wide names has (opening_in p, p)
-    by (Column c) h = (h.0, ((h.1, (h.2, h.3)), refl))
+    by (Column c) h = (h.0, ((h.1, (h.2, (h.3, h.4))), refl))
     by (PrimaryKey ns) h = (h.0, ((h.1, h.2), refl))
     by (Index n ns) h = (tt, (h, refl))
     by OtherKey h = (h, (tt, refl))

@@ -1,7 +1,7 @@
 -- The grammar of a schema file: the items that each statement is spelled with.
 --
 -- Two languages share it: that of schema files, and a wider one that has more types, defaults and keys.
-use Rattle.std.specs.Prelude.{◌≡◌, ℕ, zero, suc, Bool, true, false, ◌&&◌, List, [], ◌∷◌, ◌++◌, Option, Some, None, codes}
+use Rattle.std.specs.Prelude.{◌≡◌, ℕ, zero, suc, Bool, true, false, not, ◌&&◌, List, [], ◌∷◌, ◌++◌, Option, Some, None, codes}
 use Rattle.std.specs.List.{AllByRecursion, list_any, flat_map}
 use Rattle.std.specs.Str.{bytes_eq}
 use Rattle.vl_token.specs.Tok.{Tok}
@@ -69,9 +69,13 @@ charset b = given b (Key (codes "CHARACTER") ∷ Key (codes "SET") ∷ Which is_
 abbrev pub collation : Bool → List Item
 collation b = given b (Key (codes "COLLATE") ∷ Which is_word ∷ [])
 
--- in this order
+abbrev pub unique : Bool → List Item
+unique b = given b (Key (codes "UNIQUE") ∷ [])
+
+-- in this order; UNIQUE ends them, in the wider language
 abbrev pub options : ColumnOptions → List Item
-options o = nullable o.nullable ++ (default o.default ++ (auto_increment o.auto_increment ++ (primary o.primary ++ (charset o.charset ++ collation o.collation))))
+options o =
+    nullable o.nullable ++ (default o.default ++ (auto_increment o.auto_increment ++ (primary o.primary ++ (charset o.charset ++ (collation o.collation ++ unique o.unique)))))
 
 -- ---- parts of a table
 
@@ -118,9 +122,12 @@ abbrev pub FitsDefault : Bool → Option DefaultValue → Type 0
 FitsDefault wide (Some defaults.Other) = wide ≡ true
 FitsDefault wide _ = Unit {0}
 
+abbrev pub FitsUnique : Bool → Bool → Type 0
+FitsUnique wide unique = (not wide && unique) ≡ false
+
 -- behind these names of columns, and behind a primary key or not
 abbrev pub Fits : Bool → List (List ℕ) → Bool → Part → Type 0
-Fits wide names has (Column c) = (list_any (bytes_eq c.name) names ≡ false) × FitsType wide c.ty × FitsDefault wide c.options.default × ((has && c.options.primary) ≡ false)
+Fits wide names has (Column c) = (list_any (bytes_eq c.name) names ≡ false) × FitsType wide c.ty × FitsDefault wide c.options.default × ((has && c.options.primary) ≡ false) × FitsUnique wide c.options.unique
 Fits wide names has (PrimaryKey ns) = (has ≡ false) × HasSome ns × AreDistinct ns
 Fits wide names has (Index n ns) = HasSome ns
 Fits wide names has OtherKey = wide ≡ true

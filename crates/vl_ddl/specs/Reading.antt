@@ -172,6 +172,16 @@ collation_at ts =
       Ok (true, w.1))
     else Ok (false, ts)
 
+-- in the wider language
+unfoldable pub unique_at : Bool → List Tok → Read Bool
+unique_at false ts = Ok (false, ts)
+unique_at true ts =
+    if starts (is_key (codes "UNIQUE")) ts
+    then (do
+      u ← one (key (codes "UNIQUE")) ts
+      Ok (true, u.1))
+    else Ok (false, ts)
+
 unfoldable pub options_at : Bool → Bool → List Tok → Read ColumnOptions
 options_at wide has ts = do
   n ← nullable_at ts
@@ -180,7 +190,8 @@ options_at wide has ts = do
   p ← primary_at has a.1
   c ← charset_at p.1
   o ← collation_at c.1
-  Ok (record { nullable = n.0; default = d.0; auto_increment = a.0; primary = p.0; charset = c.0; collation = o.0 }, o.1)
+  u ← unique_at wide o.1
+  Ok (record { nullable = n.0; default = d.0; auto_increment = a.0; primary = p.0; charset = c.0; collation = o.0; unique = u.0 }, u.1)
 
 -- ---- parts of a table
 

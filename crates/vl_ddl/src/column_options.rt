@@ -10,4 +10,6 @@ pub struct ColumnOptions {
     pub primary: bool,
     pub charset: bool,
     pub collation: bool,
+    /// UNIQUE, which stands there in the wider language alone.
+    pub unique: bool,
 }

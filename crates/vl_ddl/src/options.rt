@@ -145,6 +145,21 @@ fn collation(tokens: Tokens<'_>) -> Result<(bool, Tokens<'_>), ReadError>
     Ok((true, rest))
 }
 
+// `[UNIQUE]`, which isn't read but in the wider language.
+#[tactic(auto, unfolding(crate::specs::Reading::unique_at))]
+fn unique(wide: bool, tokens: Tokens<'_>) -> Result<(bool, Tokens<'_>), ReadError>
+    ensures { Gives (λ x. (x.0, tokens_of x.1.now)) result (reading.unique_at wide (tokens_of tokens.now)) }
+{
+    if !wide {
+        return Ok((false, tokens));
+    }
+    if !starts_key(b"UNIQUE", tokens) {
+        return Ok((false, tokens));
+    }
+    let rest = key(b"UNIQUE", tokens)?;
+    Ok((true, rest))
+}
+
 /// What stands behind a column's type, in the one order that there is.
 #[tactic(auto, unfolding(crate::specs::Reading::options_at))]
 pub fn options(
@@ -160,6 +175,7 @@ pub fn options(
     let (primary, rest) = primary(has_key, rest)?;
     let (charset, rest) = charset(rest)?;
     let (collation, rest) = collation(rest)?;
+    let (unique, rest) = unique(wide, rest)?;
     let options = ColumnOptions {
         nullable,
         default,
@@ -167,6 +183,7 @@ pub fn options(
         primary,
         charset,
         collation,
+        unique,
     };
     Ok((options, rest))
 }

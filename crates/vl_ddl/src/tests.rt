@@ -215,6 +215,17 @@ fn what_is_unsupported(rt: HostRuntime) -> Result<(), Fail> {
                 b"unsupported 23",
             ),
             (b"CREATE TABLE t (UNIQUE int (a));", b"unsupported 16"),
+            (b"CREATE TABLE t (a INT UNIQUE);", b"unsupported 22"),
+            (
+                b"CREATE TABLE t (a INT NOT NULL unique KEY, b DOUBLE);",
+                b"unsupported 31",
+            ),
+            (
+                b"CREATE TABLE t (a INT COLLATE c UNIQUE NULL);",
+                b"unsupported 32",
+            ),
+            (b"CREATE TABLE t (a INT DEFAULT UNIQUE);", b"unsupported 30"),
+            (b"CREATE TABLE t (a INT NOT UNIQUE);", b"syntax 26"),
             (b"CREATE TABLE t (`UNIQUE` (a));", b"syntax 25"),
             (b"CREATE TABLE t (a INT DEFAULT 0);", b"unsupported 30"),
             (b"CREATE TABLE t (a INT DEFAULT 'x');", b"unsupported 30"),
