@@ -8,10 +8,12 @@ use Rattle.vl_port.specs.declared.answer.Answer.{Answer}
 use Rattle.vl_port.specs.declared.answer.Answer.TheVariants.{Done, Unchanged, Rows, Found, Held, Lost, Device, Limit, Memory}
 use Rattle.vl_port.specs.declared.carried.Carried.{Carried}
 use Rattle.vl_port.specs.declared.committed.Committed.{Committed}
+use Rattle.vl_port.specs.declared.outcome.Outcome.{Outcome}
 use Rattle.vl_port.specs.declared.who.Who.{Who}
 use Rattle.vl_port.specs.Carrying.{Carries, Closes, CommitCarries}
 use Rattle.vl_port.specs.Counting.{Faults, IsCommitCounted, IsCounted}
 use Rattle.vl_port.specs.Losses.{Losses, Plays}
+use Rattle.vl_port.specs.Outcomes.{outcome_of}
 use Rattle.vl_port.specs.Serving.{Shards}
 
 pub record PortView : Type 0 where
@@ -23,6 +25,8 @@ pub record PortView : Type 0 where
   pub carried : ℕ → ℕ
   -- the way that the last of them took
   pub way : Carried
+  -- what the last act came to, until that is taken
+  pub outcome : Option Outcome
   -- the losses that the link is still to play, where they are known
   pub losses : Option Losses
   -- the limit that a write would pass on a shard, and its height
@@ -60,6 +64,7 @@ pub record HasActed (old : PortView) (who : Who) (shard : ℕ) (act : Act) (answ
   pub carried : IsCarried old shard new
   pub counted : IsCounted old.faults shard new.way answer new.faults
   pub limited : IsLimited (old.over shard who act) answer
+  pub came : new.outcome ≡ Some (outcome_of answer)
 
 -- one commit on one shard, and its outcome
 pub record HasCommitted (old : PortView) (who : Who) (shard : ℕ) (told : Committed) (new : PortView) : Type 0 where
@@ -69,6 +74,10 @@ pub record HasCommitted (old : PortView) (who : Who) (shard : ℕ) (told : Commi
   pub counted : IsCommitCounted old.faults shard new.way told new.faults
   -- a shard goes down only by a fault of its disks
   pub fell : (old.shards shard).incarnation < (new.shards shard).incarnation → Rose (old.faults.disks shard) (new.faults.disks shard)
+
+-- what the last act came to was taken
+abbrev pub without_outcome : PortView → PortView
+without_outcome port = record port { outcome = None }
 
 -- nothing was carried, and nothing failed
 pub record IsQuiet (old new : PortView) : Type 0 where

@@ -9,6 +9,7 @@ pub mod Life
 pub mod Limiting
 pub mod Losses
 pub mod Others
+pub mod Outcomes
 pub mod Placing
 pub mod Reading
 pub mod Serving

@@ -1,4 +1,8 @@
+ghost use Rattle.std.specs.Prelude.{◌≡◌};
+ghost use Rattle.vl_port.specs.Outcomes.{outcome_of};
+
 use crate::found_rows::FoundRows;
+use crate::outcome::Outcome;
 use vl_values::SessionNo;
 use vl_values::key::Key;
 use vl_values::limit::Limit;
@@ -27,4 +31,20 @@ pub enum Answer {
     Limit { what: Limit, count: u64 },
     /// Memory was refused; nothing has changed.
     Memory,
+}
+
+impl Answer {
+    /// What the act came to.
+    pub fn outcome(&self) -> Outcome
+        ensures { result ≡ outcome_of self.now }
+    {
+        match self {
+            Answer::Done => Outcome::Wrote,
+            Answer::Unchanged | Answer::Rows(_) | Answer::Found { .. } => Outcome::Took,
+            Answer::Held { .. } | Answer::Limit { .. } => Outcome::Opened,
+            Answer::Lost(why) => Outcome::Lost(*why),
+            Answer::Device => Outcome::Device,
+            Answer::Memory => Outcome::Refused,
+        }
+    }
 }

@@ -24,6 +24,7 @@ pub mod link;
 pub mod local_link;
 pub mod loss;
 pub mod opened;
+pub mod outcome;
 pub mod port;
 pub mod script_link;
 pub mod shard_list;

@@ -2,7 +2,7 @@ ghost use Rattle.std.specs.Prelude.{◌≡◌, ◌<◌, ◌≤◌, ℕ, true};
 ghost use Rattle.std.specs.Option.{is_some};
 ghost use Rattle.vl_catalog.specs.declared.catalog.Catalog.{Catalog};
 ghost use Rattle.vl_port.specs.View.{has_group};
-ghost use Rattle.vl_port.specs.Calls.{HasActed, HasClosed, HasCommitted, IsSamePort, PortView};
+ghost use Rattle.vl_port.specs.Calls.{HasActed, HasClosed, HasCommitted, IsSamePort, PortView, without_outcome};
 ghost use Rattle.vl_port.specs.Placing.{IsActOn};
 ghost use Rattle.vl_port.specs.Taking.{takes_keys};
 ghost use Rattle.vl_port.specs.Transaction.{last_incarnation, last_tx};
@@ -11,6 +11,7 @@ use crate::act::Act;
 use crate::answer::Answer;
 use crate::carried::Carried;
 use crate::committed::Committed;
+use crate::outcome::Outcome;
 use crate::who::Who;
 use vl_values::ShardNo;
 
@@ -55,4 +56,10 @@ pub trait ShardPort {
     /// The way that the last act or commit took; `Passed` before the first.
     fn way(&self) -> Carried
         ensures { result ≡ (told self.now).way };
+
+    /// What the last act came to, if one was carried since this was asked last. It asks no shard.
+    fn take_outcome(&mut self) -> Option<Outcome>
+        ensures outcome { result ≡ (told self.old).outcome }
+        ensures taken { told self.new ≡ without_outcome (told self.old) }
+        ensures same { IsSamePort (catalog self.old) (count self.old) (catalog self.new) (count self.new) };
 }

@@ -4,6 +4,7 @@ use Rattle.vl_values.specs.declared.key.Key.{Key}
 use Rattle.vl_catalog.specs.declared.catalog.Catalog.{Catalog}
 use Rattle.vl_port.specs.declared.carried.Carried.{Carried}
 use Rattle.vl_port.specs.declared.carried.Carried.TheVariants.{Passed}
+use Rattle.vl_port.specs.declared.outcome.Outcome.{Outcome}
 use Rattle.vl_port.specs.declared.who.Who.{Who}
 use Rattle.vl_port.specs.View.{View}
 use Rattle.vl_port.specs.Calls.{PortView}
@@ -13,13 +14,14 @@ use Rattle.vl_port.specs.Serving.{Serves}
 use Rattle.vl_shard.specs.Parts.{Parts, view_of}
 
 -- the catalog, the shards by their numbers, the link, how many acts and commits were carried to each
--- shard, and the way of the last one
+-- shard, the way of the last one, and what the last act came to, until that is taken
 pub record BankParts (L : Type 0) : Type 0 where
   pub catalog : Catalog
   pub shards : List Parts
   pub link : L
   pub carried : List ℕ
   pub way : Carried
+  pub outcome : Option Outcome
 
 -- where there is no shard, none was ever opened and nothing is held
 abbrev pub no_shard : Parts
@@ -46,6 +48,7 @@ told_by bank lost losses = record {
   faults = record { link = lost; disks = λ shard. 0 };
   carried = carried_of bank.carried;
   way = bank.way;
+  outcome = bank.outcome;
   losses = losses;
   over = λ shard who act. None;
 }

@@ -17,6 +17,7 @@ use vl_port::answer::Answer;
 use vl_port::carried::Carried;
 use vl_port::committed::Committed;
 use vl_port::link::Link;
+use vl_port::outcome::Outcome;
 use vl_port::port::ShardPort;
 use vl_port::who::Who;
 use vl_values::group::Group;
@@ -30,6 +31,7 @@ pub struct Bank<L> {
     link: L,
     carried: Vec<u64>,
     way: Carried,
+    outcome: Option<Outcome>,
 }
 
 impl<L> Model for Bank<L> {
@@ -37,9 +39,9 @@ impl<L> Model for Bank<L> {
 
     ghost Value = { BankParts L };
 
-    ghost view = { λ b. record { catalog = b.catalog; shards = b.shards.items; link = b.link; carried = b.carried.items; way = b.way } };
+    ghost view = { λ b. record { catalog = b.catalog; shards = b.shards.items; link = b.link; carried = b.carried.items; way = b.way; outcome = b.outcome } };
 
-    ghost invariant = { λ b. IsBank (record { catalog = b.catalog; shards = b.shards.items; link = b.link; carried = b.carried.items; way = b.way }) };
+    ghost invariant = { λ b. IsBank (record { catalog = b.catalog; shards = b.shards.items; link = b.link; carried = b.carried.items; way = b.way; outcome = b.outcome }) };
 }
 
 // This many shards of their first incarnation, without rows and sessions.
@@ -80,6 +82,7 @@ impl<L: Drop> Bank<L> {
             link,
             carried,
             way: Carried::Passed,
+            outcome: None,
         })
     }
 }
@@ -178,7 +181,9 @@ impl<L: Link> ShardPort for Bank<L> {
         ensures serves { IsServing self.new }
     {
         let way = self.carry(shard);
-        self.shards[shard as usize].act(&who, act, way)
+        let answer = self.shards[shard as usize].act(&who, act, way);
+        self.outcome = Some(answer.outcome());
+        answer
     }
 
     /// Commits a shard session on the shard of this number.
@@ -207,5 +212,13 @@ impl<L: Link> ShardPort for Bank<L> {
         ensures { result ≡ self.now.way }
     {
         self.way
+    }
+
+    /// What the last act came to, if one was carried since this was asked last.
+    fn take_outcome(&mut self) -> Option<Outcome>
+        ensures outcome { result ≡ self.old.outcome }
+        ensures bank { self.new ≡ record self.old { outcome = None } }
+    {
+        self.outcome.take()
     }
 }

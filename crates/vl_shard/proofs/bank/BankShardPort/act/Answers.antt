@@ -12,8 +12,8 @@ returns-clause-serves g c =
     let within = subst (λ (l : List Parts). c.args.shard < length l) (sym shards) c.requires.shard in
     let catalog = ap (λ (b : BankParts g.row.L.Denot). b.catalog) c.self.view_is ∙ c.carry-way.ensures.catalog in
     let fits = subst (λ (k : Catalog). IsActOn k c.args.shard c.args.act.now) (sym catalog) c.requires.fits in
-    bank_acted c.self.inside.catalog c.self.inside.shards.items c.args.shard c.index_mut.result.now c.act.new.self within c.index_mut.ensures.value c.self.invariant.serves
-    c.args.who c.args.act.now c.carry-way.result c.act.result c.requires.group fits c.act.ensures.acted
+    bank_acted c.self.inside.catalog c.self.inside.shards.items c.args.shard c.index_mut.result.now c.act-answer.new.self within c.index_mut.ensures.value c.self.invariant.serves
+    c.args.who c.args.act.now c.carry-way.result c.act-answer.result c.requires.group fits c.act-answer.ensures.acted
 
 pub invariant_of-self : goal.invariant_of-self
 invariant_of-self g c =
@@ -23,7 +23,7 @@ invariant_of-self g c =
     let fits = subst (λ (k : Catalog). IsActOn k c.args.shard c.args.act.now) (sym catalog) c.requires.fits in
     record {
       serves =
-          bank_acted c.self.inside.catalog c.self.inside.shards.items c.args.shard c.index_mut.result.now c.act.new.self within c.index_mut.ensures.value c.self.invariant.serves
-          c.args.who c.args.act.now c.carry-way.result c.act.result c.requires.group fits c.act.ensures.acted;
-      counts = c.self.invariant.counts ∙ sym (length-set c.self.inside.shards.items c.args.shard c.act.new.self);
+          bank_acted c.self.inside.catalog c.self.inside.shards.items c.args.shard c.index_mut.result.now c.act-answer.new.self within c.index_mut.ensures.value c.self.invariant.serves
+          c.args.who c.args.act.now c.carry-way.result c.act-answer.result c.requires.group fits c.act-answer.ensures.acted;
+      counts = c.self.invariant.counts ∙ sym (length-set c.self.inside.shards.items c.args.shard c.act-answer.new.self);
     }
