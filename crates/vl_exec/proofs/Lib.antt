@@ -1,11 +1,2 @@
-pub mod Asking
-pub mod Beginning
-pub mod Dues
-pub mod Finding
-pub mod Goings
-pub mod Keeping
-pub mod Owing
-pub mod Settings
 pub mod Staged
-pub mod Steps
-pub mod Writings
+pub mod Telling

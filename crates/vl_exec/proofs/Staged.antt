@@ -1,5 +1,5 @@
 -- What the steps and commits of a client leave of all that stand on the stage.
-use Rattle.std.proofs.Common.{◌≡◌, ◌≢◌, ◌<◌, ◌≤◌, ◌↔◌, ◌-◌, ◌==◌, ⊎_elim, ℕ, zero, suc, cond, Bool, true, false, Option, Some, None, List, [], ◌∷◌, ◌++◌, length, set, length-set, length-append, get_or, get_or-set_same, get_or-set_other, Contains, arith, refl, sym, ap, subst, ◌∙◌}
+use Rattle.std.proofs.Common.{◌≡◌, ◌≢◌, ◌<◌, ◌≤◌, ◌↔◌, ◌-◌, ◌==◌, ◌⊎◌, ⊎_elim, inl, inr, ℕ, zero, suc, cond, Bool, true, false, Option, Some, None, List, [], ◌∷◌, ◌++◌, length, set, length-set, length-append, get_or, get_or-set_same, get_or-set_other, Contains, arith, refl, sym, ap, subst, ◌∙◌}
 use Rattle.std.specs.Prelude.{◌&&◌, IfSome, slice_get}
 use Rattle.std.specs.List.{AllPairs}
 use Rattle.std.specs.Option.{is_some}
@@ -22,10 +22,12 @@ use Rattle.vl_port.specs.declared.fate.Fate.TheVariants as fates
 use Rattle.vl_port.specs.declared.opened.Opened.{Opened}
 use Rattle.vl_port.specs.declared.tx_state.TxState.{TxState}
 use Rattle.vl_port.specs.declared.who.Who.{Who}
+use Rattle.vl_port.specs.Asking.{IsSameTx}
 use Rattle.vl_port.specs.Calls.{HasClosed, HasCommitted, PortView}
 use Rattle.vl_port.specs.Carrying.{Closes, CommitCarries, CommitUses, Commits}
 use Rattle.vl_port.specs.Life.{downed_in, loss_of, lost_as, marked}
-use Rattle.vl_port.specs.Asking.{IsSameTx}
+use Rattle.vl_port.specs.declared.limits.Limits.{Limits}
+use Rattle.vl_lookup.specs.Stepping.{IsSameTxButClaims}
 use Rattle.vl_port.specs.Serving.{Serves, Shards}
 use Rattle.vl_port.specs.Transaction.{IsIn, last_tx, listed, session_of, with_session}
 use Rattle.vl_port.specs.View.{View, has_group, is_who}
@@ -35,9 +37,9 @@ use Rattle.vl_port.proofs.Lives.{marked_there}
 use Rattle.vl_port.proofs.Strangers.{apart_by_tx, in_stranger, stranger_closed, stranger_commit}
 use Rattle.vl_shard.specs.Calls.{Drops}
 use Rattle.vl_statement.specs.declared.program_told.ProgramTold.{ProgramTold}
-use Rattle.vl_statement.specs.Effects.{IsWell}
+use Rattle.vl_select.specs.Answering.{GoesOn}
 use Rattle.vl_exec.specs.Making.{IsMade}
-use Rattle.vl_exec.specs.Progress.{Progress}
+use Rattle.vl_exec.specs.declared.program.Program.{Program}
 use Rattle.vl_exec.specs.Staging.{AreClients, Client, IsClient, IsNumbered}
 
 -- ---- the last of a list
@@ -68,18 +70,55 @@ not_twice front last once (k, within, is) =
 
 -- ---- a session that is committed and struck off
 
-pre_apart : Pre ≢ Main
-pre_apart h = cc
-
-post_apart : Post ≢ Main
-post_apart h = cc
-
 some_group : (a b : Group) → Some a ≡ Some b → a ≡ b
 some_group a b h = cc
 
-main_apart : (tx : TxState) (group : Group) → group ≢ Main → is_who (session_of tx Main) (session_of tx group) ≡ false
-main_apart tx group apart =
-    ⊎_elim (λ same. absurd (apart (sym (some_group Main group (ap (λ (w : Who). w.group) (is_who-true (session_of tx Main) (session_of tx group) same)))))) (λ other. other) (cases_Bool (is_who (session_of tx Main) (session_of tx group)))
+group_is : (a b : Group) → (a ≡ b) ⊎ (a ≢ b)
+group_is Pre Pre = inl refl
+group_is Pre Main = inr (λ h. cc (h))
+group_is Pre Post = inr (λ h. cc (h))
+group_is Main Pre = inr (λ h. cc (h))
+group_is Main Main = inl refl
+group_is Main Post = inr (λ h. cc (h))
+group_is Post Pre = inr (λ h. cc (h))
+group_is Post Main = inr (λ h. cc (h))
+group_is Post Post = inl refl
+
+session_apart : (tx : TxState) (own group : Group) → group ≢ own → is_who (session_of tx own) (session_of tx group) ≡ false
+session_apart tx own group apart =
+    ⊎_elim (λ same. absurd (apart (sym (some_group own group (ap (λ (w : Who). w.group) (is_who-true (session_of tx own) (session_of tx group) same)))))) (λ other. other) (cases_Bool (is_who (session_of tx own) (session_of tx group)))
+
+-- the transaction with another list of a group
+number_with : (tx : TxState) (own : Group) (xs : List ℕ) → (with_session tx own xs).number ≡ tx.number
+number_with tx Pre xs = refl
+number_with tx Main xs = refl
+number_with tx Post xs = refl
+
+limits_with : (tx : TxState) (own : Group) (xs : List ℕ) → (with_session tx own xs).limits ≡ tx.limits
+limits_with tx Pre xs = refl
+limits_with tx Main xs = refl
+limits_with tx Post xs = refl
+
+session_with : (tx : TxState) (own : Group) (xs : List ℕ) (group : Group) → session_of (with_session tx own xs) group ≡ session_of tx group
+session_with tx Pre xs group = refl
+session_with tx Main xs group = refl
+session_with tx Post xs group = refl
+
+own_with : (tx : TxState) (own : Group) (xs : List ℕ) → listed (with_session tx own xs) own ≡ xs
+own_with tx Pre xs = refl
+own_with tx Main xs = refl
+own_with tx Post xs = refl
+
+other_with : (tx : TxState) (own : Group) (xs : List ℕ) (group : Group) → group ≢ own → listed (with_session tx own xs) group ≡ listed tx group
+other_with tx Pre xs Pre apart = absurd (apart refl)
+other_with tx Pre xs Main apart = refl
+other_with tx Pre xs Post apart = refl
+other_with tx Main xs Pre apart = refl
+other_with tx Main xs Main apart = absurd (apart refl)
+other_with tx Main xs Post apart = refl
+other_with tx Post xs Pre apart = refl
+other_with tx Post xs Main apart = refl
+other_with tx Post xs Post apart = absurd (apart refl)
 
 closed_ends : (old new : View) (who : Who) → Closes old who new → new.sessions who ≡ None
 closed_ends old new who h = ap (λ (v : View). v.sessions who) h ∙ ap (λ (b : Bool). cond b None (old.sessions who)) (is_who-same who)
@@ -118,79 +157,95 @@ close_ends {port} {after} {who} {shard} h = record {
   others = h.others;
 }
 
-module _ (tx : TxState) (count : ℕ) (old new : Shards) (front : List ℕ) (shard : ℕ) (isin : IsIn tx count old) (ends : tx.main ≡ front ++ shard ∷ []) (did : HasEnded old new (session_of tx Main) shard) where
-  session_stays : (group : Group) (s : ℕ) → group ≢ Main → (new s).sessions (session_of tx group) ≡ (old s).sessions (session_of tx group)
+module _ (tx : TxState) (own : Group) (count : ℕ) (old new : Shards) (front : List ℕ) (shard : ℕ) (isin : IsIn tx count old) (ends : listed tx own ≡ front ++ shard ∷ []) (did : HasEnded old new (session_of tx own) shard) where
+  session_stays : (group : Group) (s : ℕ) → group ≢ own → (new s).sessions (session_of tx group) ≡ (old s).sessions (session_of tx group)
   session_stays group s apart =
       ⊎_elim (λ same. subst (λ (n : ℕ). (new n).sessions (session_of tx group) ≡ (old n).sessions (session_of tx group)) (sym (eqb-true s shard same))
-      (did.stay (session_of tx group) (main_apart tx group apart)))
+      (did.stay (session_of tx group) (session_apart tx own group apart)))
       (λ other. ap (λ (v : View). v.sessions (session_of tx group)) (did.others s (eqb-false s shard other)))
       (cases_Bool (s == shard))
 
   once : AllPairs (λ one other. one ≢ other) (front ++ shard ∷ [])
-  once = subst (λ (xs : List ℕ). AllPairs (λ one other. one ≢ other) xs) ends (isin.once Main)
+  once = subst (λ (xs : List ℕ). AllPairs (λ one other. one ≢ other) xs) ends (isin.once own)
 
-  was_listed : (s : ℕ) → Contains front s → Contains tx.main s
+  was_listed : (s : ℕ) → Contains front s → Contains (listed tx own) s
   was_listed s here = subst (λ (xs : List ℕ). Contains xs s) (sym ends) (Contains-append_left front (shard ∷ []) s here)
 
-  still_listed : (s : ℕ) → s ≢ shard → Contains tx.main s → Contains front s
+  still_listed : (s : ℕ) → s ≢ shard → Contains (listed tx own) s → Contains front s
   still_listed s apart here = ⊎_elim (λ it. it) (λ last. absurd (apart (sym last))) (Contains-push_cases front shard s (subst (λ (xs : List ℕ). Contains xs s) ends here))
 
-  main_there : Contains front shard ↔ (is_some ((new shard).sessions (session_of tx Main)) ≡ true)
-  main_there = (
+  own_there : Contains front shard ↔ (is_some ((new shard).sessions (session_of tx own)) ≡ true)
+  own_there = (
     λ here. absurd (not_twice front shard once here),
-    λ is. absurd (no_both (is_some ((new shard).sessions (session_of tx Main))) is (ap is_some did.gone)),
+    λ is. absurd (no_both (is_some ((new shard).sessions (session_of tx own))) is (ap is_some did.gone)),
   )
 
-  main_elsewhere : (s : ℕ) → s < count → s ≢ shard → Contains front s ↔ (is_some ((new s).sessions (session_of tx Main)) ≡ true)
-  main_elsewhere s within apart = (
-    λ here. subst (λ (v : View). is_some (v.sessions (session_of tx Main)) ≡ true) (sym (did.others s apart)) ((isin.known Main s within).0 (was_listed s here)),
-    λ is. still_listed s apart ((isin.known Main s within).1 (subst (λ (v : View). is_some (v.sessions (session_of tx Main)) ≡ true) (did.others s apart) is)),
+  own_elsewhere : (s : ℕ) → s < count → s ≢ shard → Contains front s ↔ (is_some ((new s).sessions (session_of tx own)) ≡ true)
+  own_elsewhere s within apart = (
+    λ here. subst (λ (v : View). is_some (v.sessions (session_of tx own)) ≡ true) (sym (did.others s apart)) ((isin.known own s within).0 (was_listed s here)),
+    λ is. still_listed s apart ((isin.known own s within).1 (subst (λ (v : View). is_some (v.sessions (session_of tx own)) ≡ true) (did.others s apart) is)),
   )
 
-  known : (group : Group) (s : ℕ) → s < count → (Contains (listed (with_session tx Main front) group) s ↔ (is_some ((new s).sessions (session_of tx group)) ≡ true))
-  known Pre s within = subst (λ (o : Option Opened). Contains tx.pre s ↔ (is_some o ≡ true)) (sym (session_stays Pre s pre_apart)) (isin.known Pre s within)
-  known Main s within =
-      ⊎_elim (λ same. subst (λ (n : ℕ). Contains front n ↔ (is_some ((new n).sessions (session_of tx Main)) ≡ true)) (sym (eqb-true s shard same)) main_there)
-      (λ apart. main_elsewhere s within (eqb-false s shard apart))
+  known_own : (s : ℕ) → s < count → Contains front s ↔ (is_some ((new s).sessions (session_of tx own)) ≡ true)
+  known_own s within =
+      ⊎_elim (λ same. subst (λ (n : ℕ). Contains front n ↔ (is_some ((new n).sessions (session_of tx own)) ≡ true)) (sym (eqb-true s shard same)) own_there)
+      (λ apart. own_elsewhere s within (eqb-false s shard apart))
       (cases_Bool (s == shard))
-  known Post s within = subst (λ (o : Option Opened). Contains tx.post s ↔ (is_some o ≡ true)) (sym (session_stays Post s post_apart)) (isin.known Post s within)
 
-  within : (group : Group) (s : ℕ) → Contains (listed (with_session tx Main front) group) s → s < count
-  within Pre s here = isin.within Pre s here
-  within Main s here = isin.within Main s (was_listed s here)
-  within Post s here = isin.within Post s here
+  known_other : (group : Group) (s : ℕ) → group ≢ own → s < count → Contains (listed tx group) s ↔ (is_some ((new s).sessions (session_of tx group)) ≡ true)
+  known_other group s apart within = subst (λ (o : Option Opened). Contains (listed tx group) s ↔ (is_some o ≡ true)) (sym (session_stays group s apart)) (isin.known group s within)
 
-  once_each : (group : Group) → AllPairs (λ one other. one ≢ other) (listed (with_session tx Main front) group)
-  once_each Pre = isin.once Pre
-  once_each Main = front_once front shard once
-  once_each Post = isin.once Post
+  known_by : (group : Group) (s : ℕ) → s < count → (group ≡ own) ⊎ (group ≢ own) → Contains (listed (with_session tx own front) group) s ↔ (is_some ((new s).sessions (session_of tx group)) ≡ true)
+  known_by group s within (inl same) =
+      subst (λ (g : Group). Contains (listed (with_session tx own front) g) s ↔ (is_some ((new s).sessions (session_of tx g)) ≡ true)) (sym same)
+      (subst (λ (xs : List ℕ). Contains xs s ↔ (is_some ((new s).sessions (session_of tx own)) ≡ true)) (sym (own_with tx own front)) (known_own s within))
+  known_by group s within (inr apart) = subst (λ (xs : List ℕ). Contains xs s ↔ (is_some ((new s).sessions (session_of tx group)) ≡ true)) (sym (other_with tx own front group apart)) (known_other group s apart within)
 
-  pub in_ended : IsIn (with_session tx Main front) count new
-  in_ended = record { known = known; within = within; once = once_each }
+  within_by : (group : Group) (s : ℕ) → (group ≡ own) ⊎ (group ≢ own) → Contains (listed (with_session tx own front) group) s → s < count
+  within_by group s (inl same) here =
+      isin.within own s (was_listed s (subst (λ (xs : List ℕ). Contains xs s) (own_with tx own front) (subst (λ (g : Group). Contains (listed (with_session tx own front) g) s) same here)))
+  within_by group s (inr apart) here = isin.within group s (subst (λ (xs : List ℕ). Contains xs s) (other_with tx own front group apart) here)
 
-pub client_ended : (catalog : Catalog) (old new : Shards) (client : Client) (back : TxState) (who : Who) (shard : ℕ) → IsClient catalog old client → slice_get client.0.main (length client.0.main - 1) ≡ Some shard
-    → ((front : List ℕ) (last : ℕ) → client.0.main ≡ front ++ last ∷ [] → back ≡ with_session client.0 Main front)
-    → who ≡ session_of client.0 Main → HasEnded old new who shard → IsClient catalog new (back, client.1)
-client_ended catalog old new client back who shard is last struck own did =
-    let split = last_splits client.0.main shard last in
+  once_by : (group : Group) → (group ≡ own) ⊎ (group ≢ own) → AllPairs (λ one other. one ≢ other) (listed (with_session tx own front) group)
+  once_by group (inl same) =
+      subst (λ (g : Group). AllPairs (λ one other. one ≢ other) (listed (with_session tx own front) g)) (sym same)
+      (subst (λ (xs : List ℕ). AllPairs (λ one other. one ≢ other) xs) (sym (own_with tx own front)) (front_once front shard once))
+  once_by group (inr apart) = subst (λ (xs : List ℕ). AllPairs (λ one other. one ≢ other) xs) (sym (other_with tx own front group apart)) (isin.once group)
+
+  pub in_ended : IsIn (with_session tx own front) count new
+  in_ended = record {
+    known = λ group s within. subst (λ (w : Who). Contains (listed (with_session tx own front) group) s ↔ (is_some ((new s).sessions w) ≡ true)) (sym (session_with tx own front group)) (known_by group s within (group_is group own));
+    within = λ group s here. within_by group s (group_is group own) here;
+    once = λ group. once_by group (group_is group own);
+  }
+
+pub client_ended : (catalog : Catalog) (old new : Shards) (client : Client) (own : Group) (back : TxState) (who : Who) (shard : ℕ) → IsClient catalog old client → slice_get (listed client.0 own) (length (listed client.0 own) - 1) ≡ Some shard
+    → ((front : List ℕ) (last : ℕ) → listed client.0 own ≡ front ++ last ∷ [] → back ≡ with_session client.0 own front)
+    → who ≡ session_of client.0 own → HasEnded old new who shard → IsClient catalog new (back, client.1)
+client_ended catalog old new client own back who shard is last struck by_own did =
+    let split = last_splits (listed client.0 own) shard last in
     subst (λ (t : TxState). IsClient catalog new (t, client.1)) (sym (struck split.0 shard split.1))
-    (record { number = is.number; sessions = in_ended client.0 (shard_count catalog.rings) old new split.0 shard is.sessions split.1 (subst (λ (w : Who). HasEnded old new w shard) own did); made = is.made })
+    (record {
+      number = subst (λ (n : ℕ). n ≤ last_tx) (sym (number_with client.0 own split.0)) is.number;
+      sessions = in_ended client.0 own (shard_count catalog.rings) old new split.0 shard is.sessions split.1 (subst (λ (w : Who). HasEnded old new w shard) by_own did);
+      made = subst (λ (l : Limits). IfSome client.1 (λ program. IsMade catalog (shard_count catalog.rings) l.tries program)) (sym (limits_with client.0 own split.0)) is.made;
+    })
 
-pub struck_number : (tx back : TxState) (shard : ℕ) → slice_get tx.main (length tx.main - 1) ≡ Some shard → ((front : List ℕ) (last : ℕ) → tx.main ≡ front ++ last ∷ [] → back ≡ with_session tx Main front) → back.number ≡ tx.number
-struck_number tx back shard last struck =
-    let split = last_splits tx.main shard last in
-    ap (λ (t : TxState). t.number) (struck split.0 shard split.1)
+pub struck_number : (tx back : TxState) (own : Group) (shard : ℕ) → slice_get (listed tx own) (length (listed tx own) - 1) ≡ Some shard → ((front : List ℕ) (last : ℕ) → listed tx own ≡ front ++ last ∷ [] → back ≡ with_session tx own front) → back.number ≡ tx.number
+struck_number tx back own shard last struck =
+    let split = last_splits (listed tx own) shard last in
+    ap (λ (t : TxState). t.number) (struck split.0 shard split.1) ∙ number_with tx own split.0
 
 -- the last that is listed is a session of the port, on one of its shards
-pub last_within : (catalog : Catalog) (count : ℕ) (seen : Shards) (client : Client) (shard : ℕ) → IsClient catalog seen client → Serves catalog count seen → slice_get client.0.main (length client.0.main - 1) ≡ Some shard → shard < count
-last_within catalog count seen client shard is serves last =
-    let split = last_splits client.0.main shard last in
-    subst (λ (n : ℕ). shard < n) (sym serves.shards) (is.sessions.within Main shard (subst (λ (xs : List ℕ). Contains xs shard) (sym split.1) (Contains-push split.0 shard)))
+pub last_within : (catalog : Catalog) (count : ℕ) (seen : Shards) (client : Client) (own : Group) (shard : ℕ) → IsClient catalog seen client → Serves catalog count seen → slice_get (listed client.0 own) (length (listed client.0 own) - 1) ≡ Some shard → shard < count
+last_within catalog count seen client own shard is serves last =
+    let split = last_splits (listed client.0 own) shard last in
+    subst (λ (n : ℕ). shard < n) (sym serves.shards) (is.sessions.within own shard (subst (λ (xs : List ℕ). Contains xs shard) (sym split.1) (Contains-push split.0 shard)))
 
-pub foreign_ended : (old new : Shards) (tx : TxState) (by : Who) (shard : ℕ) → by ≡ session_of tx Main → HasEnded old new by shard → (s : ℕ) (who : Who) → who.tx ≢ tx.number → (new s).sessions who ≡ (old s).sessions who
-foreign_ended old new tx by shard own did s who apart =
+pub foreign_ended : (old new : Shards) (tx : TxState) (own : Group) (by : Who) (shard : ℕ) → by ≡ session_of tx own → HasEnded old new by shard → (s : ℕ) (who : Who) → who.tx ≢ tx.number → (new s).sessions who ≡ (old s).sessions who
+foreign_ended old new tx own by shard by_own did s who apart =
     ⊎_elim (λ same. subst (λ (n : ℕ). (new n).sessions who ≡ (old n).sessions who) (sym (eqb-true s shard same))
-    (did.stay who (apart_by_tx by who (λ equal. apart (sym equal ∙ ap (λ (w : Who). w.tx) own)))))
+    (did.stay who (apart_by_tx by who (λ equal. apart (sym equal ∙ ap (λ (w : Who). w.tx) by_own)))))
     (λ other. ap (λ (v : View). v.sessions who) (did.others s (eqb-false s shard other)))
     (cases_Bool (s == shard))
 
@@ -267,7 +322,7 @@ module _ (catalog : Catalog) (count count_new : ℕ) (old new : Shards) (clients
     }
 
 -- the client's next program
-pub program_started : (catalog : Catalog) (seen : Shards) (client : Client) (program : Progress) → IsClient catalog seen client → ((limit : ℕ) → 1 ≤ limit → IsMade catalog (shard_count catalog.rings) limit program) → 1 ≤ client.0.limits.tries → IsClient catalog seen (client.0, Some program)
+pub program_started : (catalog : Catalog) (seen : Shards) (client : Client) (program : Program) → IsClient catalog seen client → ((limit : ℕ) → 1 ≤ limit → IsMade catalog (shard_count catalog.rings) limit program) → 1 ≤ client.0.limits.tries → IsClient catalog seen (client.0, Some program)
 program_started catalog seen client program is made least = record { number = is.number; sessions = is.sessions; made = made client.0.limits.tries least }
 
 -- a new transaction lists nothing
@@ -285,21 +340,30 @@ same_read clients n one other below first second = get_or_read clients n one bel
 pub sessions_ready : (catalog : Catalog) (count : ℕ) (seen : Shards) (client : Client) → IsClient catalog seen client → Serves catalog count seen → IsIn client.0 count seen
 sessions_ready catalog count seen client is serves = subst (λ (n : ℕ). IsIn client.0 n seen) (sym serves.shards) is.sessions
 
-pub program_ready : (catalog : Catalog) (count : ℕ) (seen : Shards) (client : Client) (program : Progress) → IsClient catalog seen client → Serves catalog count seen → client.1 ≡ Some program → IsMade catalog count client.0.limits.tries program
+pub program_ready : (catalog : Catalog) (count : ℕ) (seen : Shards) (client : Client) (program : Program) → IsClient catalog seen client → Serves catalog count seen → client.1 ≡ Some program → IsMade catalog count client.0.limits.tries program
 program_ready catalog count seen client program is serves has =
     subst (λ (n : ℕ). IsMade catalog n client.0.limits.tries program) (sym serves.shards)
-    (subst (λ (o : Option Progress). IfSome o (λ p. IsMade catalog (shard_count catalog.rings) client.0.limits.tries p)) has is.made)
+    (subst (λ (o : Option Program). IfSome o (λ p. IsMade catalog (shard_count catalog.rings) client.0.limits.tries p)) has is.made)
 
-left_made : (catalog : Catalog) (count limit : ℕ) (told : ProgramTold) (program : Progress) (left : Option Progress) → (IsWell told → IsMade catalog count limit program) → IfSome left (λ it. IsWell told × (it ≡ program)) → IfSome left (λ it. IsMade catalog count limit it)
+left_made : (catalog : Catalog) (count limit : ℕ) (told : ProgramTold) (program : Program) (left : Option Program) → (GoesOn told → IsMade catalog count limit program) → IfSome left (λ it. GoesOn told × (it ≡ program)) → IfSome left (λ it. IsMade catalog count limit it)
 left_made catalog count limit told program None made is = tt
-left_made catalog count limit told program (Some it) made is = subst (λ (p : Progress). IsMade catalog count limit p) (sym is.1) (made is.0)
+left_made catalog count limit told program (Some it) made is = subst (λ (p : Program). IsMade catalog count limit p) (sym is.1) (made is.0)
 
-pub client_stepped : (catalog : Catalog) (count : ℕ) (old new : Shards) (client : Client) (tx : TxState) (told : ProgramTold) (program : Progress) (left : Option Progress) → IsClient catalog old client → IsSameTx client.0 tx → Serves catalog count new → IsIn tx count new
-    → (IsWell told → IsMade catalog count tx.limits.tries program) → IfSome left (λ it. IsWell told × (it ≡ program)) → IsClient catalog new (tx, left)
+pub client_stepped : (catalog : Catalog) (count : ℕ) (old new : Shards) (client : Client) (tx : TxState) (told : ProgramTold) (program : Program) (left : Option Program) → IsClient catalog old client → IsSameTxButClaims client.0 tx → Serves catalog count new → IsIn tx count new
+    → (GoesOn told → IsMade catalog count tx.limits.tries program) → IfSome left (λ it. GoesOn told × (it ≡ program)) → IsClient catalog new (tx, left)
 client_stepped catalog count old new client tx told program left is same serves sessions made over = record {
   number = subst (λ (n : ℕ). n ≤ last_tx) (sym same.number) is.number;
   sessions = subst (λ (n : ℕ). IsIn tx n new) serves.shards sessions;
   made = left_made catalog (shard_count catalog.rings) tx.limits.tries told program left (λ well. subst (λ (n : ℕ). IsMade catalog n tx.limits.tries program) serves.shards (made well)) over;
+}
+
+-- ---- an act of a client's own
+
+pub client_asked : (catalog : Catalog) (count : ℕ) (old new : Shards) (client : Client) (tx : TxState) → IsClient catalog old client → IsSameTx client.0 tx → Serves catalog count new → IsIn tx count new → IsClient catalog new (tx, client.1)
+client_asked catalog count old new client tx is same serves sessions = record {
+  number = subst (λ (n : ℕ). n ≤ last_tx) (sym same.number) is.number;
+  sessions = subst (λ (n : ℕ). IsIn tx n new) serves.shards sessions;
+  made = subst (λ (l : Limits). IfSome client.1 (λ program. IsMade catalog (shard_count catalog.rings) l.tries program)) (sym same.limits) is.made;
 }
 
 -- ---- a session that is killed

@@ -1,73 +1,39 @@
--- What the program of a plan begins with.
-use Rattle.std.specs.Prelude.{ℕ, Bool, true, false, ◌==◌, ◌&&◌, List, [], length, map, slice_get, unwrap_or, Some, None}
-use Rattle.std.specs.Option.{option_map_or}
-use Rattle.vl_values.specs.declared.group.Group.TheVariants.{Main}
-use Rattle.vl_values.specs.declared.key.Key.{Key}
-use Rattle.vl_values.specs.declared.pred.Pred.{Pred}
-use Rattle.vl_values.specs.declared.value.Value.{Value}
+-- What the program of a plan begins with, and which plans run.
+use Rattle.std.specs.Prelude.{◌≡◌, ◌≤◌, ◌*◌, Bool, true, false, length, if◌then◌else◌, Option, Some, None}
+use Rattle.vl_values.specs.declared.unsupported.Unsupported.{Unsupported}
+use Rattle.vl_values.specs.declared.unsupported.Unsupported.TheVariants.{Lookups}
 use Rattle.vl_catalog.specs.declared.catalog.Catalog.{Catalog}
-use Rattle.vl_catalog.specs.declared.table.Table.{Table}
-use Rattle.vl_catalog.specs.Fitting.{key_of}
-use Rattle.vl_catalog.specs.Place.{place}
-use Rattle.vl_model.specs.declared.route.Route.{Route}
-use Rattle.vl_model.specs.declared.route.Route.TheVariants as routes
 use Rattle.vl_plan.specs.declared.plan.Plan.{Plan}
 use Rattle.vl_plan.specs.declared.plan.Plan.TheVariants as plans
-use Rattle.vl_port.specs.declared.act.Act.TheVariants.{Insert, Find}
-use Rattle.vl_exec.specs.declared.action.Action.{Action}
-use Rattle.vl_exec.specs.declared.row_change.RowChange.{RowChange}
-use Rattle.vl_exec.specs.declared.row_change.RowChange.TheVariants.{Remove, Set}
-use Rattle.vl_exec.specs.declared.target.Target.{Target}
-use Rattle.vl_exec.specs.Progress.{Progress}
-use Rattle.vl_model.specs.Visiting.{visited}
+use Rattle.vl_insert.specs.Begun.{IsBegun as IsInsertBegun}
+use Rattle.vl_insert.specs.Progress.{actions_left}
+use Rattle.vl_select.specs.Begun.{begun as select_begun}
+use Rattle.vl_change.specs.Begun.{can_change, deleting, updating}
+use Rattle.vl_exec.specs.declared.program.Program.{Program}
+use Rattle.vl_exec.specs.declared.program.Program.TheVariants as programs
 
--- the key of a row of the table of this number
-abbrev pub key_in : Catalog → ℕ → List Value → Key
-key_in catalog number row = option_map_or (λ (table : Table). key_of number table row) (slice_get catalog.tables number) (record { table = number; pk = [] })
+abbrev pub IsBegun : Catalog → Plan → Program → Type 0
+IsBegun catalog (plans.Insert plan) (programs.Insert insert) = IsInsertBegun catalog plan insert
+IsBegun catalog (plans.Select plan) (programs.Select select) = select ≡ select_begun catalog plan
+IsBegun catalog (plans.Update plan) (programs.Change change) = change ≡ updating catalog plan
+IsBegun catalog (plans.Delete plan) (programs.Change change) = change ≡ deleting catalog plan
+IsBegun catalog _ _ = ⊥
 
--- where a row is inserted
-abbrev pub target_of : Catalog → ℕ → List Value → Target
-target_of catalog number row = record { shard = unwrap_or (place catalog number row) 0; key = key_in catalog number row }
+-- an INSERT has at most eight claims of three actions for each row, and its insertion
+abbrev pub IsBounded : Plan → Program → Type 0
+IsBounded (plans.Insert plan) (programs.Insert insert) = actions_left insert ≤ 25 * length plan.rows
+IsBounded _ _ = Unit {0}
 
-abbrev pub insertion_at : Target → List Value → Action
-insertion_at target row = record { group = Main; shard = target.shard; act = Insert target.key row; old = None }
-
--- a row is inserted on its place
-abbrev pub insertion : Catalog → ℕ → List Value → Action
-insertion catalog number row = insertion_at (target_of catalog number row) row
-
--- the rows that match are read and locked, shard by shard, and then changed
-abbrev pub searching : Pred → RowChange → List ℕ → Progress
-searching pred change shards = record {
-  search = Some (record { find = Find pred true; change = change; shards = shards; read = 0; found = 0 });
-  writes = [];
-  done = 0;
-  wrote = false;
-  tries = 0;
-}
-
--- the rows are written in their order
-abbrev pub writing : List Action → Progress
-writing actions = record { search = None; writes = actions; done = 0; wrote = false; tries = 0 }
-
-abbrev pub begun : Catalog → Plan → Progress
-begun catalog (plans.Insert plan) = writing (map (insertion catalog plan.table) plan.rows)
-begun catalog (plans.Update plan) = searching plan.pred (Set plan.settings) (visited catalog plan.pred.table plan.route [])
-begun catalog (plans.Delete plan) = searching plan.pred Remove (visited catalog plan.pred.table plan.route [])
-begun catalog _ = writing []
-
--- no lookup stands between a statement and the rows of the table of this number
-abbrev pub has_no_lookup : Catalog → ℕ → Bool
-has_no_lookup catalog number = option_map_or (λ (table : Table). length table.lookups == 0) (slice_get catalog.tables number) false
-
-abbrev pub is_direct : Route → Bool
-is_direct (routes.Primary values) = true
-is_direct (routes.Lookup l values) = false
-is_direct routes.All = true
-
--- the statements that programs run: those that write a table without lookups
+-- the statements that programs run: of those that change rows, the ones of a table without lookups
 abbrev pub can_run : Catalog → Plan → Bool
-can_run catalog (plans.Insert plan) = has_no_lookup catalog plan.table
-can_run catalog (plans.Update plan) = has_no_lookup catalog plan.pred.table && is_direct plan.route
-can_run catalog (plans.Delete plan) = has_no_lookup catalog plan.pred.table && is_direct plan.route
+can_run catalog (plans.Insert plan) = true
+can_run catalog (plans.Select plan) = true
+can_run catalog (plans.Update plan) = can_change catalog plan.pred plan.route
+can_run catalog (plans.Delete plan) = can_change catalog plan.pred plan.route
 can_run catalog _ = false
+
+-- why a plan has no program, where it is one that changes rows
+abbrev pub unsupported : Catalog → Plan → Option Unsupported
+unsupported catalog (plans.Update plan) = if can_change catalog plan.pred plan.route then None else Some Lookups
+unsupported catalog (plans.Delete plan) = if can_change catalog plan.pred plan.route then None else Some Lookups
+unsupported catalog _ = None

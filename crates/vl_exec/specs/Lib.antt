@@ -1,8 +1,5 @@
-pub mod Answering
 pub mod Begun
-pub mod Changes
 pub mod Effects
-pub mod Laying
 pub mod Making
 pub mod Progress
 pub mod Staging

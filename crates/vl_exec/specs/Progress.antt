@@ -1,76 +1,41 @@
--- How far a statement has come: the action that is due, and what is left after one.
-use Rattle.std.specs.Prelude.{◌≡◌, ◌<◌, ◌⊎◌, ℕ, ◌+◌, ◌-◌, Bool, true, List, [], ◌++◌, length, slice_get, Option, Some, None}
-use Rattle.std.specs.Option.{option_map, option_map_or, option_or}
-use Rattle.vl_values.specs.declared.group.Group.TheVariants.{Main}
-use Rattle.vl_values.specs.declared.key.Key.{Key}
-use Rattle.vl_values.specs.declared.value.Value.{Value}
-use Rattle.vl_exec.specs.declared.action.Action.{Action}
-use Rattle.vl_exec.specs.declared.row_change.RowChange.{RowChange}
-use Rattle.vl_exec.specs.declared.row_change.RowChange.TheVariants.{Remove, Set}
-use Rattle.vl_exec.specs.declared.search.Search.{Search}
-use Rattle.vl_exec.specs.Changes.{writes_of}
+-- How far a statement has come, whichever it is.
+use Rattle.std.specs.Prelude.{◌≡◌, ◌<◌, ◌≤◌, ℕ, ◌+◌, Bool, false, length, Option}
+use Rattle.std.specs.Option.{option_map}
+use Rattle.vl_values.specs.declared.group.Group.{Group}
+use Rattle.vl_insert.specs.Progress.{actions_left, session_due as insert_session}
+use Rattle.vl_select.specs.Progress.{Action as Read, IsNearer as IsSelectNearer, acts_done as select_acts, due as read_due}
+use Rattle.vl_change.specs.declared.action.Action.{Action}
+use Rattle.vl_change.specs.Progress.{IsNearer as IsChangeNearer, acts_done as change_acts, due as change_due}
+use Rattle.vl_exec.specs.declared.program.Program.{Program}
+use Rattle.vl_exec.specs.declared.program.Program.TheVariants as programs
 
--- the search for rows, if the statement has one; the writes that are known so far, and how many of them
--- are done; whether a version was written; how often the action that is due was answered `Held`
-pub record Progress : Type 0 where
-  pub search : Option Search
-  pub writes : List Action
-  pub done : ℕ
-  pub wrote : Bool
-  pub tries : ℕ
+-- the group and the shard of the session that the action which is due goes by, or would go by
+abbrev pub session_due : Program → Option (Group × ℕ)
+session_due (programs.Insert insert) = insert_session insert
+session_due (programs.Select select) = option_map (λ (read : Read). (read.group, read.shard)) (read_due select)
+session_due (programs.Change change) = option_map (λ (action : Action). (action.group, action.shard)) (change_due change)
 
--- the next locking read, by the main session of its shard
-abbrev pub read_due : Search → Option Action
-read_due search = option_map (λ shard. record { group = Main; shard = shard; act = search.find; old = None }) (slice_get search.shards search.read)
+-- whether a version was written
+abbrev pub wrote : Program → Bool
+wrote (programs.Insert insert) = insert.wrote
+wrote (programs.Select select) = false
+wrote (programs.Change change) = change.wrote
 
-abbrev pub read_due_in : Option Search → Option Action
-read_due_in None = None
-read_due_in (Some search) = read_due search
+-- nearer to the statement's end
+abbrev pub IsNearer : Program → Program → Type 0
+IsNearer (programs.Insert old) (programs.Insert new) = actions_left new < actions_left old
+IsNearer (programs.Select old) (programs.Select new) = IsSelectNearer old new
+IsNearer (programs.Change old) (programs.Change new) = IsChangeNearer old new
+IsNearer _ _ = ⊥
 
--- the action that is due: all reads come before the writes
-abbrev pub due : Progress → Option Action
-due p = option_or (read_due_in p.search) (slice_get p.writes p.done)
+-- one action more is done. An INSERT counts those that are left
+abbrev pub IsCounted : Program → Program → Type 0
+IsCounted (programs.Insert old) (programs.Insert new) = Unit {0}
+IsCounted (programs.Select old) (programs.Select new) = select_acts new ≡ select_acts old + 1
+IsCounted (programs.Change old) (programs.Change new) = change_acts new ≡ change_acts old + 1
+IsCounted _ _ = ⊥
 
--- a write was done
-abbrev pub with_write : Progress → Progress
-with_write p = record p { done = p.done + 1; wrote = true; tries = 0 }
-
-abbrev pub has_read : ℕ → Search → Search
-has_read count search = record search { read = search.read + 1; found = search.found + count }
-
--- a read gave these rows of a shard
-abbrev pub with_rows : ℕ → List (Key × List Value) → Progress → Progress
-with_rows shard rows p = record p {
-  search = option_map (has_read (length rows)) p.search;
-  writes = p.writes ++ option_map_or (λ (search : Search). writes_of search.change shard rows) p.search [];
-  tries = 0;
-}
-
--- the action that is due was answered `Held` once more
-abbrev pub with_try : Progress → Progress
-with_try p = record p { tries = p.tries + 1 }
-
--- how many rows were found: those that an UPDATE read, else those that were written
-abbrev pub found_by : RowChange → ℕ → ℕ → ℕ
-found_by Remove found done = done
-found_by (Set settings) found done = found
-
-abbrev pub found : Progress → ℕ
-found p = option_map_or (λ (search : Search). found_by search.change search.found p.done) p.search p.done
-
--- ---- the end of a statement
-
--- how many reads and writes are done
-abbrev pub acts_done : Progress → ℕ
-acts_done p = option_map_or (λ (search : Search). search.read) p.search 0 + p.done
-
--- how many shards are still to be read, and how many writes of those that are known still to be done
-abbrev pub reads_left : Progress → ℕ
-reads_left p = option_map_or (λ (search : Search). length search.shards - search.read) p.search 0
-
-abbrev pub writes_left : Progress → ℕ
-writes_left p = length p.writes - p.done
-
--- nearer to the statement's end: a read is done, or a write and no read comes in its place
-abbrev pub IsNearer : Progress → Progress → Type 0
-IsNearer old new = (reads_left new < reads_left old) ⊎ ((reads_left new ≡ reads_left old) × (writes_left new < writes_left old))
+-- a SELECT reads no more than the entries of its route and each shard once, of so many
+abbrev pub IsFew : ℕ → Program → Program → Type 0
+IsFew count (programs.Select old) (programs.Select new) = (select_acts new ≤ length new.entries + count) × (new.entries ≡ old.entries)
+IsFew count _ _ = Unit {0}

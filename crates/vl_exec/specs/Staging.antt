@@ -8,10 +8,10 @@ use Rattle.vl_port.specs.declared.who.Who.{Who}
 use Rattle.vl_port.specs.Serving.{Serves, Shards}
 use Rattle.vl_port.specs.Transaction.{IsIn, last_tx}
 use Rattle.vl_exec.specs.Making.{IsMade}
-use Rattle.vl_exec.specs.Progress.{Progress}
+use Rattle.vl_exec.specs.declared.program.Program.{Program}
 
 abbrev pub Client : Type 0
-Client = TxState × Option Progress
+Client = TxState × Option Program
 
 -- the port has the sessions that the transaction lists, and its program may be stepped
 pub record IsClient (catalog : Catalog) (seen : Shards) (client : Client) : Type 0 where

@@ -1,147 +1,44 @@
-ghost use Rattle.std.specs.Prelude.{◌≡◌, ◌<◌, ◌≤◌, ◌+◌, ◌⊎◌, true, false, ℕ, [], IfErr, IfOk, OnOk, OnErr, length};
-ghost use Rattle.std.specs.Option.{option_copied, option_map};
-ghost use Rattle.vl_values.specs.declared.cause.Cause.TheVariants as causes;
-ghost use Rattle.vl_port.specs.declared.answer.Answer.TheVariants as answers;
-ghost use Rattle.vl_exec.specs.declared.action.Action.{Action as AnAction};
-ghost use Rattle.vl_statement.specs.declared.program_told.ProgramTold.TheVariants.{More};
+ghost use Rattle.std.specs.Prelude.{◌≡◌, ◌≤◌, ◌⊎◌, true, false, ℕ, IfErr, IfOk};
+ghost use Rattle.vl_catalog.specs.Place.{shard_count};
 ghost use Rattle.vl_rules.specs.Order.{Checked};
 ghost use Rattle.vl_plan.specs.Fits.{Fits};
-ghost use Rattle.vl_port.specs.Asking.{IsSameTx, Lists};
 ghost use Rattle.vl_port.specs.Calls.{IsSamePort};
 ghost use Rattle.vl_port.specs.Others.{LeavesOthers};
 ghost use Rattle.vl_port.specs.Serving.{Serves};
 ghost use Rattle.vl_port.specs.Transaction.{IsIn, last_tx};
-ghost use Rattle.vl_catalog.specs.Place.{shard_count};
-ghost use Rattle.vl_statement.specs.Refusing.{limit_of_changes};
+ghost use Rattle.vl_lookup.specs.Stepping.{IsSameTxButClaims};
+ghost use Rattle.vl_statement.specs.declared.program_told.ProgramTold.TheVariants.{More};
 ghost use Rattle.vl_statement.specs.Effects.{HasLocksOf, HasPendingOf, IsWell, LeavesOpen};
-ghost use Rattle.vl_exec.specs.Answering.{Answered, Goes, Waits, refused, reply_of};
-ghost use Rattle.vl_exec.specs.Begun.{begun, can_run, searching, writing};
+ghost use Rattle.vl_select.specs.Answering.{GoesOn};
+ghost use Rattle.vl_exec.specs.Begun.{IsBegun, IsBounded, can_run};
 ghost use Rattle.vl_exec.specs.Effects.{AreOwed, HasWritten};
-ghost use Rattle.vl_exec.specs.Laying.{HasRoomFor, begun_on};
 ghost use Rattle.vl_exec.specs.Making.{IsMade};
-ghost use Rattle.vl_exec.specs.Progress.{IsNearer, acts_done, due, found, with_rows, with_write};
+ghost use Rattle.vl_exec.specs.Progress.{IsCounted, IsFew, IsNearer, session_due, wrote};
 ghost use Rattle.vl_exec.specs.Stepping.{Stepped};
 
-use crate::action::Action;
-use crate::actions::Actions;
-use crate::groundwork::Groundwork;
-use crate::row_change::RowChange;
-use crate::search::Search;
-use crate::starting::{insertions, lay};
 use std::alloc::{AllocError, Global};
-use std::marker::Model;
 use vl_catalog::Catalog;
-use vl_plan::delete_plan::DeletePlan;
-use vl_plan::insert_plan::InsertPlan;
+use vl_change::change::Change;
+use vl_insert::insert::Insert;
 use vl_plan::plan::Plan;
-use vl_plan::update_plan::UpdatePlan;
-use vl_port::act::Act;
-use vl_port::answer::Answer;
-use vl_port::asked::Asked;
-use vl_port::asking::ask;
-use vl_port::found_rows::FoundRows;
 use vl_port::port::ShardPort;
 use vl_port::tx_state::TxState;
-use vl_route::home::each_covers;
+use vl_select::select::Select;
 use vl_statement::program_told::ProgramTold;
-use vl_statement::refusing::{
-    device_failed, duplicate_row, limit_of_changes, lock_wait, session_lost,
-};
-use vl_statement::telling;
-use vl_values::cause::Cause;
+use vl_values::ShardNo;
 use vl_values::group::Group;
-use vl_values::items::Items;
-use vl_values::key::Key;
-use vl_values::pred::Pred;
-use vl_values::{SessionNo, ShardNo};
 
 /// A statement that is run, one action at a time.
 #[derive(Drop)]
-pub struct Program {
-    search: Option<Search>,
-    writes: Actions,
-    done: usize,
-    wrote: bool,
-    tries: u32,
-}
-
-impl Model for Program {
-    ghost use Rattle.vl_exec.specs.Progress.{Progress};
-
-    ghost Value = { Progress };
-
-    ghost view = { λ p. record { search = p.search; writes = p.writes; done = p.done; wrote = p.wrote; tries = p.tries } };
-}
-
-// The program of an INSERT, whose rows are written in their order.
-fn writing(writes: Actions) -> Program
-    ensures { result ≡ writing writes }
-{
-    Program {
-        search: None,
-        writes,
-        done: 0,
-        wrote: false,
-        tries: 0,
-    }
-}
-
-// The program of an UPDATE or a DELETE, which finds its rows first.
-fn searching(pred: Pred, change: RowChange, shards: Vec<ShardNo>, writes: Vec<Action>) -> Program
-    requires { writes.items ≡ [] }
-    ensures { result ≡ searching pred change shards.items }
-{
-    let search = Search {
-        find: Act::Find {
-            pred,
-            locking: true,
-        },
-        change,
-        shards: Items::from_vec(shards),
-        read: 0,
-        found: 0,
-    };
-    Program {
-        search: Some(search),
-        writes: Actions::from_vec(writes),
-        done: 0,
-        wrote: false,
-        tries: 0,
-    }
-}
-
-// The program of a plan whose groundwork is laid. It takes no memory.
-fn begin(plan: Plan, laid: Groundwork) -> Program
-    requires { HasRoomFor plan laid }
-    ensures { result ≡ begun_on plan laid }
-{
-    let Groundwork {
-        targets,
-        actions,
-        shards,
-    } = laid;
-    match plan {
-        Plan::Insert(InsertPlan { table: _, rows }) => {
-            let writes = insertions(targets, rows.into_vec(), actions);
-            writing(Actions::from_vec(writes))
-        }
-        Plan::Update(
-            UpdatePlan {
-                settings,
-                pred,
-                route: _,
-            },
-        ) => searching(pred, RowChange::Set(settings), shards, actions),
-        Plan::Delete(DeletePlan { pred, route: _ }) => {
-            searching(pred, RowChange::Remove, shards, actions)
-        }
-        _ => writing(Actions::from_vec(actions)),
-    }
+pub enum Program {
+    Insert(Insert),
+    Select(Select),
+    /// An UPDATE or a DELETE.
+    Change(Change),
 }
 
 impl Program {
-    /// The program of a plan: an INSERT, an UPDATE or a DELETE of a table without lookups. The plan comes
-    /// back where memory was refused.
+    /// The program of a plan. The plan comes back where memory was refused.
     pub fn start(
         alloc: Global,
         catalog: &Catalog,
@@ -150,219 +47,51 @@ impl Program {
         requires checked { Checked catalog.now }
         requires fits { Fits catalog.now plan }
         requires run { can_run catalog.now plan ≡ true }
-        ensures begun { IfOk result (λ program. program ≡ begun catalog.now plan) }
+        ensures begun { IfOk result (IsBegun catalog.now plan) }
         ensures made { IfOk result (λ program. (limit : ℕ) → 1 ≤ limit → IsMade catalog.now (shard_count catalog.now.rings) limit program) }
+        ensures bound { IfOk result (IsBounded plan) }
         ensures back { IfErr result (λ back. back.0 ≡ plan) }
     {
-        each_covers(catalog.rings.as_slice());
-        match lay(alloc, catalog, &plan) {
-            Ok(laid) => Ok(begin(plan, laid)),
-            Err(full) => Err((plan, full)),
-        }
-    }
-
-    // The group and the shard of the session that the action which is due goes by.
-    fn due_session(&self) -> Option<(Group, ShardNo)>
-        ensures { result ≡ option_map (λ action. (action.group, action.shard)) (due self.now) }
-    {
-        if let Some(search) = &self.search {
-            if let Some(shard) = search.shards.as_slice().get(search.read) {
-                return Some((Group::Main, *shard));
-            }
-        }
-        match self.writes.as_slice().get(self.done) {
-            Some(action) => Some((action.group, action.shard)),
-            None => None,
-        }
-    }
-
-    // Its act.
-    fn due_act(&self) -> Option<&Act>
-        ensures { option_copied result ≡ option_map (λ action. action.act) (due self.now) }
-    {
-        if let Some(search) = &self.search {
-            if search.read < search.shards.len() {
-                return Some(&search.find);
-            }
-        }
-        match self.writes.as_slice().get(self.done) {
-            Some(action) => Some(&action.act),
-            None => None,
-        }
-    }
-
-    // How many rows were found.
-    fn found(&self) -> u64
-        ensures { result ≡ found self.now }
-    {
-        match &self.search {
-            Some(search) => match search.change {
-                RowChange::Remove => self.done as u64,
-                RowChange::Set(_) => search.found,
+        match plan {
+            Plan::Insert(plan) => match Insert::start(alloc, catalog, plan) {
+                Ok(insert) => Ok(Program::Insert(insert)),
+                Err((plan, full)) => Err((Plan::Insert(plan), full)),
             },
-            None => self.done as u64,
-        }
-    }
-
-    fn reply(&self, tx: &TxState) -> ProgramTold
-        ensures { result ≡ reply_of tx.now self.now }
-    {
-        telling::done(tx, self.done as u64, self.found())
-    }
-
-    fn refused(&self, tx: &TxState, why: Cause) -> ProgramTold
-        ensures { result ≡ refused tx.now self.now why }
-    {
-        telling::refused(tx, self.wrote, why)
-    }
-
-    fn refused_for(&self, tx: &TxState, why: Result<Cause, AllocError>) -> ProgramTold
-        ensures ok { IfOk why (λ cause. result ≡ refused tx.now self.now cause) }
-        ensures err { OnErr why (result ≡ refused tx.now self.now causes.OutOfMemory) }
-    {
-        telling::refused_for(tx, self.wrote, why)
-    }
-
-    // Whether another action is due, or the reply.
-    fn go(&self, tx: &TxState) -> ProgramTold
-        ensures { Goes tx.now self.now result self.now }
-    {
-        match self.due_session() {
-            Some(_) => ProgramTold::More,
-            None => self.reply(tx),
-        }
-    }
-
-    // A write was done.
-    fn pass(&mut self)
-        requires { self.old.done < length self.old.writes }
-        ensures { self.new ≡ with_write self.old }
-    {
-        // It always is: the test bounds the sum.
-        let known = self.writes.len();
-        if self.done < known {
-            self.done += 1;
-        }
-        self.wrote = true;
-        self.tries = 0;
-    }
-
-    // A read gave these rows of a shard.
-    fn take(&mut self, alloc: Global, shard: ShardNo, rows: FoundRows) -> Result<(), AllocError>
-        ensures ok { OnOk result (self.new ≡ with_rows shard rows self.old) }
-        ensures err { OnErr result (self.new.wrote ≡ self.old.wrote) }
-    {
-        if let Some(search) = &mut self.search {
-            let more = search.add_found(alloc, shard, rows)?;
-            self.writes.append(more)?;
-        }
-        self.tries = 0;
-        Ok(())
-    }
-
-    // The action was answered `Held`: it is tried again, or the statement is refused.
-    fn wait(
-        &mut self,
-        alloc: Global,
-        catalog: &Catalog,
-        tx: &TxState,
-        by: SessionNo,
-        key: Key,
-    ) -> ProgramTold
-        requires { self.old.tries < tx.now.limits.tries }
-        ensures { Waits catalog.now tx.now self.old by key result self.new }
-    {
-        let limit = tx.limits.tries;
-        let tries = self.tries + 1;
-        if tries < limit {
-            self.tries = tries;
-            return ProgramTold::Held { by, key, tries };
-        }
-        let why = lock_wait(alloc, catalog, limit, by, &key);
-        self.refused_for(tx, why)
-    }
-
-    // What the port's answer to the action means.
-    fn answered(
-        &mut self,
-        alloc: Global,
-        catalog: &Catalog,
-        tx: &TxState,
-        group: Group,
-        shard: ShardNo,
-        answer: Answer,
-    ) -> ProgramTold
-        requires checked { Checked catalog.now }
-        requires tries { self.old.tries < tx.now.limits.tries }
-        requires done { answer ≡ answers.Done → self.old.done < length self.old.writes }
-        requires changed { answer ≡ answers.Unchanged → ⊥ }
-        ensures { (action : AnAction) → action.group ≡ group → action.shard ≡ shard → Answered catalog.now tx.now self.old action answer result self.new }
-    {
-        match answer {
-            Answer::Done => {
-                self.pass();
-                self.go(tx)
-            }
-            Answer::Rows(rows) => match self.take(alloc, shard, rows) {
-                Ok(()) => self.go(tx),
-                Err(_) => self.refused(tx, Cause::OutOfMemory),
+            Plan::Select(plan) => match Select::start(alloc, catalog, plan) {
+                Ok(select) => Ok(Program::Select(select)),
+                Err((plan, full)) => Err((Plan::Select(plan), full)),
             },
-            Answer::Held { by, key } => self.wait(alloc, catalog, tx, by, key),
-            Answer::Found { key, row: _ } => {
-                let why = duplicate_row(alloc, catalog, shard, &key);
-                self.refused_for(tx, why)
-            }
-            Answer::Limit { what, count } => self.refused(tx, Cause::Limit { what, count }),
-            Answer::Lost(why) => {
-                telling::refused_whole(session_lost(catalog, group, shard, why))
-            }
-            Answer::Device => telling::refused_whole(device_failed(catalog, shard)),
-            // No write that is done here depends on a value.
-            Answer::Memory | Answer::Unchanged => self.refused(tx, Cause::OutOfMemory),
+            Plan::Update(plan) => match Change::update(alloc, catalog, plan) {
+                Ok(change) => Ok(Program::Change(change)),
+                Err((plan, full)) => Err((Plan::Update(plan), full)),
+            },
+            Plan::Delete(plan) => match Change::delete(alloc, catalog, plan) {
+                Ok(change) => Ok(Program::Change(change)),
+                Err((plan, full)) => Err((Plan::Delete(plan), full)),
+            },
+            // No program runs another plan.
+            plan => Err((plan, AllocError)),
         }
     }
 
-    // Does the action that is due, on one shard.
-    fn advance<P: ShardPort>(
-        &mut self,
-        alloc: Global,
-        catalog: &Catalog,
-        port: &mut P,
-        tx: &mut TxState,
-    ) -> ProgramTold
-        requires checked { Checked catalog.now }
-        requires agree { P.catalog port.old ≡ catalog.now }
-        requires number { tx.old.number ≤ last_tx }
-        requires made { IsMade catalog.now (P.count port.old) tx.old.limits.tries self.old }
-        ensures stepped { Stepped catalog.now self.old tx.old (P.told port.old) result self.new tx.new (P.told port.new) }
-        ensures port { IsSamePort (P.catalog port.old) (P.count port.old) (P.catalog port.new) (P.count port.new) }
-        ensures tx { IsSameTx tx.old tx.new }
-        ensures sessions { IsIn tx.old (P.count port.old) (P.told port.old).shards → IsIn tx.new (P.count port.new) (P.told port.new).shards }
-        ensures serves { Serves (P.catalog port.old) (P.count port.old) (P.told port.old).shards → Serves (P.catalog port.new) (P.count port.new) (P.told port.new).shards }
-        ensures others { Serves (P.catalog port.old) (P.count port.old) (P.told port.old).shards → LeavesOthers tx.old.number (P.told port.old).shards (P.told port.new).shards }
+    /// The group and the shard of the session that the action which is due goes by, or would go by where it is a
+    /// plain read and none is listed; None where no action is due.
+    pub fn due_session(&self) -> Option<(Group, ShardNo)>
+        ensures { result ≡ session_due self.now }
     {
-        let Some((group, shard)) = self.due_session() else {
-            return self.reply(tx);
-        };
-        let Some(act) = self.due_act() else {
-            return self.reply(tx);
-        };
-        if tx.is_full(act) {
-            return self.refused(tx, limit_of_changes(tx));
-        }
-        let asked = ask(port, tx, group, shard, act);
-        match asked {
-            Asked::Answered(answer) => self.answered(alloc, catalog, tx, group, shard, answer),
-            Asked::Unlisted => self.refused(tx, Cause::OutOfMemory),
+        match self {
+            Program::Insert(insert) => insert.due_session(),
+            Program::Select(select) => select.due_session(),
+            Program::Change(change) => change.due_session(),
         }
     }
 
     /// Does the action that is due, on one shard, and tells what the statement's state is then.
     ///
     /// After a reply the program is over. A refusal before the first write leaves the transaction with
-    /// its locks, unless it is the statement's own. After the first write, and where a session was lost or
-    /// a device failed, the reply says that no transaction stays open: its shard sessions are still to be
-    /// ended, all of them, by the caller.
+    /// its locks and its claims, unless it is the statement's own. After the first write, and where a session
+    /// was lost or a device failed, the reply says that no transaction stays open: its shard sessions are
+    /// still to be ended, all of them, by the caller.
     pub fn step<P: ShardPort>(
         &mut self,
         alloc: Global,
@@ -380,28 +109,33 @@ impl Program {
         // One action, that which was due, its answer with its cause, and what that means.
         ensures stepped { Stepped catalog.now self.old tx.old (P.told port.old) result self.new tx.new (P.told port.new) }
 
-        // On each shard the statement's writes stand, and so do the rows that it still is to write.
+        // On each shard the writes of an UPDATE or a DELETE stand, and so do the rows that it still is to write.
         ensures written { (shard : ℕ) → HasWritten (P.told port.old).shards tx.old self.old shard → IsWell result → HasWritten (P.told port.new).shards tx.new self.new shard }
         ensures owed { (shard : ℕ) → AreOwed (P.told port.old).shards tx.old self.old shard → IsWell result → AreOwed (P.told port.new).shards tx.new self.new shard }
 
         // Before the first write no pending version of the transaction changes, and so it is at a refusal
         // that leaves it open. Its locks stay.
-        ensures kept { LeavesOpen result ⊎ (IsWell result × (self.new.wrote ≡ false)) → HasPendingOf tx.old (P.told port.old).shards (P.told port.new).shards }
+        ensures kept { LeavesOpen result ⊎ (IsWell result × (wrote self.new ≡ false)) → HasPendingOf tx.old (P.told port.old).shards (P.told port.new).shards }
         ensures locked { LeavesOpen result ⊎ IsWell result → HasLocksOf tx.old (P.told port.old).shards (P.told port.new).shards }
 
         // It comes to its end, by one action after another.
         ensures bound { result ≡ More → IsNearer self.old self.new }
-        ensures counted { result ≡ More → acts_done self.new ≡ acts_done self.old + 1 }
+        ensures counted { result ≡ More → IsCounted self.old self.new }
+        ensures few { GoesOn result → IsFew (P.count port.new) self.old self.new }
 
         // What the next step asks for.
-        ensures made { IsWell result → IsMade catalog.now (P.count port.new) tx.new.limits.tries self.new }
+        ensures made { GoesOn result → IsMade catalog.now (P.count port.new) tx.new.limits.tries self.new }
         ensures sessions { IsIn tx.new (P.count port.new) (P.told port.new).shards }
-        ensures same { IsSameTx tx.old tx.new }
+        ensures same { IsSameTxButClaims tx.old tx.new }
         ensures serves { Serves catalog.now (P.count port.new) (P.told port.new).shards }
         ensures port { IsSamePort (P.catalog port.old) (P.count port.old) (P.catalog port.new) (P.count port.new) }
         // What other transactions have is left to them.
         ensures others { LeavesOthers tx.old.number (P.told port.old).shards (P.told port.new).shards }
     {
-        self.advance(alloc, catalog, port, tx)
+        match self {
+            Program::Insert(insert) => insert.step(alloc, catalog, port, tx),
+            Program::Select(select) => select.step(alloc, catalog, port, tx),
+            Program::Change(change) => change.step(alloc, catalog, port, tx),
+        }
     }
 }

@@ -1,37 +1,30 @@
 ghost use Rattle.std.specs.Prelude.{◌≡◌};
-ghost use Rattle.vl_exec.specs.Begun.{has_no_lookup, is_direct, can_run};
+ghost use Rattle.vl_exec.specs.Begun.{can_run, unsupported};
 
 use vl_catalog::Catalog;
-use vl_model::route::Route;
+use vl_change::running::can_change;
 use vl_plan::plan::Plan;
-use vl_values::TableNo;
+use vl_values::unsupported::Unsupported;
 
-fn has_no_lookup(catalog: &Catalog, number: TableNo) -> bool
-    ensures { result ≡ has_no_lookup catalog.now number }
-{
-    match catalog.tables.as_slice().get(number as usize) {
-        Some(table) => table.lookups.len() == 0,
-        None => false,
-    }
-}
-
-fn is_direct(route: &Route) -> bool
-    ensures { result ≡ is_direct route.now }
-{
-    match route {
-        Route::Primary(_) | Route::All => true,
-        Route::Lookup(_, _) => false,
-    }
-}
-
-/// Whether a program runs the plan: it writes a table without lookups.
+/// Whether a program runs the plan: an INSERT or a SELECT, or an UPDATE or a DELETE of a table without lookups.
 pub fn can_run(catalog: &Catalog, plan: &Plan) -> bool
     ensures { result ≡ can_run catalog.now plan.now }
 {
     match plan {
-        Plan::Insert(plan) => has_no_lookup(catalog, plan.table),
-        Plan::Update(plan) => { has_no_lookup(catalog, plan.pred.table) && is_direct(&plan.route) }
-        Plan::Delete(plan) => { has_no_lookup(catalog, plan.pred.table) && is_direct(&plan.route) }
+        Plan::Insert(_) | Plan::Select(_) => true,
+        Plan::Update(plan) => can_change(catalog, &plan.pred, &plan.route),
+        Plan::Delete(plan) => can_change(catalog, &plan.pred, &plan.route),
         _ => false,
+    }
+}
+
+/// Why a statement is refused that has a plan and no program: an UPDATE or a DELETE of a table with lookups. A
+/// plan is made where nothing else refuses its statement, so this comes after all other refusals.
+pub fn unsupported(catalog: &Catalog, plan: &Plan) -> Option<Unsupported>
+    ensures { result ≡ unsupported catalog.now plan.now }
+{
+    match plan {
+        Plan::Update(_) | Plan::Delete(_) if !can_run(catalog, plan) => Some(Unsupported::Lookups),
+        _ => None,
     }
 }

@@ -92,3 +92,14 @@ pub(crate) fn catalog_n(alloc: Global) -> Result<Catalog, Fail>
         Err(_) => Err("a catalog that keeps its rules".into()),
     }
 }
+
+/// The built-in catalog.
+pub(crate) fn catalog_a(alloc: Global) -> Result<Catalog, Fail>
+    ensures { IfOk result Checked }
+{
+    let catalog = Catalog::a(alloc)?;
+    match catalog.check(alloc) {
+        Ok(()) => Ok(catalog),
+        Err(_) => Err("a catalog that keeps its rules".into()),
+    }
+}

@@ -1,21 +1,27 @@
-ghost use Rattle.std.specs.Prelude.{◌≡◌, ◌≢◌, ◌≤◌, ℕ, IfOk, IfSome, Some};
+ghost use Rattle.std.specs.Prelude.{◌≡◌, ◌≢◌, ◌<◌, ◌≤◌, ◌^◌, ℕ, true, List, [], ◌∷◌, IfOk, IfSome, Some};
+ghost use Rattle.vl_values.specs.declared.value.Value.{Value as AValue};
+ghost use Rattle.vl_values.specs.declared.value.Value.TheVariants as values;
+ghost use Rattle.vl_catalog.specs.Fitting.{IsPlacedRow, IsRowOf};
 ghost use Rattle.vl_catalog.specs.Place.{shard_count};
 ghost use Rattle.vl_rules.specs.Order.{Checked};
 ghost use Rattle.vl_port.specs.declared.who.Who.{Who as AWho};
 ghost use Rattle.vl_port.specs.Serving.{Serves};
 ghost use Rattle.vl_shard.specs.Banks.{count_of, seen_of};
-ghost use Rattle.vl_statement.specs.Effects.{IsWell};
+ghost use Rattle.vl_select.specs.Answering.{GoesOn};
 ghost use Rattle.vl_exec.specs.Making.{IsMade};
 ghost use Rattle.vl_exec.specs.Staging.{IsClient};
 
 use crate::program::Program;
-use crate::running::can_run;
-use crate::test_catalogs::catalog_n;
+use crate::running::{can_run, unsupported};
 use std::alloc::{AllocError, Global};
 use std::marker::Model;
 use std::test::Fail;
-use vl_catalog::Catalog;
+use vl_catalog::{Catalog, Table};
 use vl_plan::planning::plan;
+use vl_port::act::Act;
+use vl_port::answer::Answer;
+use vl_port::asked::Asked;
+use vl_port::asking::ask;
 use vl_port::committed::Committed;
 use vl_port::limits::Limits;
 use vl_port::loss::Loss;
@@ -25,13 +31,21 @@ use vl_port::tx_state::TxState;
 use vl_shard::bank::Bank;
 use vl_sql::parse;
 use vl_statement::program_told::ProgramTold;
+use vl_values::cause::Cause;
+use vl_values::col_type::ColType;
 use vl_values::group::Group;
-use vl_values::{SessionNo, ShardNo};
+use vl_values::key::Key;
+use vl_values::row::Row;
+use vl_values::value::Value;
+use vl_values::{SessionNo, ShardNo, TableNo};
 
 // A transaction, and the program of its statement, until that has its reply.
 type Client = (TxState, Option<Program>);
 
 const MOST_CLIENTS: usize = 8;
+
+// The table of the entries of t1's lookup in the built-in catalog.
+const ENTRIES: TableNo = 1;
 
 // The program of a statement's text.
 fn program_of(alloc: Global, catalog: &Catalog, text: &str) -> Result<Program, Fail>
@@ -53,9 +67,52 @@ fn program_of(alloc: Global, catalog: &Catalog, text: &str) -> Result<Program, F
     }
 }
 
+// Why a statement's text is refused before it has a program.
+fn refusal_of(alloc: Global, catalog: &Catalog, text: &str) -> Result<Cause, Fail>
+    requires { Checked catalog.now }
+{
+    let Ok(statement) = parse(alloc, text.as_bytes()) else {
+        return Err("a statement".into());
+    };
+    match plan(alloc, catalog, &statement) {
+        Ok(plan) => match unsupported(catalog, &plan) {
+            Some(what) => Ok(Cause::NotSupported { what }),
+            None => Err("a statement that is refused".into()),
+        },
+        Err(why) => Ok(why),
+    }
+}
+
+// Whether the table has two columns, the first one of numbers and the key, and the second one may hold NULL.
+fn has_entries_of_numbers(table: &Table) -> bool
+    ensures { result ≡ true → (row : List AValue) → (number : ℕ) → number < 2 ^ 64 → row ≡ values.Uint number ∷ values.Null ∷ [] → IsRowOf table.now row }
+{
+    let columns = table.columns.as_slice();
+    let (Some(from), Some(to)) = (columns.first(), columns.get(1)) else {
+        return false;
+    };
+    columns.len() == 2 && from.ty == ColType::BigUint && to.nullable
+}
+
+// An entry of the number on the first shard, and its key. It names no keyspace id.
+fn entry_without_ksid(alloc: Global, catalog: &Catalog, number: u64) -> Result<(Key, Row), Fail>
+    requires { Checked catalog.now }
+    ensures { IfOk result (λ entry. IsPlacedRow catalog.now 0 entry.0 entry.1) }
+{
+    let Some(table) = catalog.tables.as_slice().get(ENTRIES as usize) else {
+        return Err("a table of entries".into());
+    };
+    let row = Row::from_vec(vec![in alloc; Value::Uint(number), Value::Null]?);
+    if !has_entries_of_numbers(table) || catalog.place_of(ENTRIES, row.as_slice()) != Some(0) {
+        return Err("an entry of the first shard".into());
+    }
+    let key = table.key_of(alloc, ENTRIES, row.as_slice())?;
+    Ok((key, row))
+}
+
 // The program, unless its statement has the reply.
 fn unless_over(told: &ProgramTold, program: Program) -> Option<Program>
-    ensures { IfSome result (λ it. IsWell told.now × (it ≡ program)) }
+    ensures { IfSome result (λ it. GoesOn told.now × (it ≡ program)) }
 {
     match told {
         ProgramTold::More
@@ -105,8 +162,46 @@ fn turn(
     Some(told)
 }
 
-// Commits the client's session that was listed last, and strikes it off; None where none is listed.
-fn commit(bank: &mut Bank<ScriptLink>, client: &mut Client) -> Option<(ShardNo, Committed)>
+fn was_done(asked: &Asked) -> Result<(), Fail> {
+    match asked {
+        Asked::Answered(Answer::Done) => Ok(()),
+        _ => Err("a write that is done".into()),
+    }
+}
+
+// Writes an entry of the number that names no keyspace id, by the client's session for entries on the first shard.
+fn leave_entry(
+    alloc: Global,
+    catalog: &Catalog,
+    bank: &mut Bank<ScriptLink>,
+    client: &mut Client,
+    number: u64,
+) -> Result<(), Fail>
+    requires checked { Checked catalog.now }
+    requires agree { bank.old.catalog ≡ catalog.now }
+    requires serves { Serves catalog.now (count_of bank.old) (seen_of bank.old) }
+    requires client { IsClient catalog.now (seen_of bank.old) client.old }
+    ensures agree { bank.new.catalog ≡ catalog.now }
+    ensures serves { Serves catalog.now (count_of bank.new) (seen_of bank.new) }
+    ensures client { IsClient catalog.now (seen_of bank.new) client.new }
+    ensures number { client.new.0.number ≡ client.old.0.number }
+    ensures foreign { (shard : ℕ) (who : AWho) → who.tx ≢ client.old.0.number → (seen_of bank.new shard).sessions who ≡ (seen_of bank.old shard).sessions who }
+{
+    let (key, row) = entry_without_ksid(alloc, catalog, number)?;
+    if bank.len() == 0 {
+        return Err("a shard".into());
+    }
+    let insert = Act::Insert { key, row };
+    let asked = ask(bank, &mut client.0, Group::Pre, 0, &insert);
+    was_done(&asked)
+}
+
+// Commits the client's session of the group that was listed last, and strikes it off; None where none is listed.
+fn commit(
+    bank: &mut Bank<ScriptLink>,
+    client: &mut Client,
+    group: Group,
+) -> Option<(ShardNo, Committed)>
     requires serves { Serves bank.old.catalog (count_of bank.old) (seen_of bank.old) }
     requires client { IsClient bank.old.catalog (seen_of bank.old) client.old }
     ensures agree { bank.new.catalog ≡ bank.old.catalog }
@@ -115,14 +210,14 @@ fn commit(bank: &mut Bank<ScriptLink>, client: &mut Client) -> Option<(ShardNo, 
     ensures number { client.new.0.number ≡ client.old.0.number }
     ensures foreign { (shard : ℕ) (who : AWho) → who.tx ≢ client.old.0.number → (seen_of bank.new shard).sessions who ≡ (seen_of bank.old shard).sessions who }
 {
-    let shard = *client.0.main.as_slice().last()?;
-    let committed = bank.commit(client.0.who(Group::Main), shard);
-    client.0.strike(Group::Main);
+    let shard = *client.0.listed(group).as_slice().last()?;
+    let committed = bank.commit(client.0.who(group), shard);
+    client.0.strike(group);
     Some((shard, committed))
 }
 
-// Ends the client's session that was listed last, and strikes it off; None where none is listed.
-fn close(bank: &mut Bank<ScriptLink>, client: &mut Client) -> Option<ShardNo>
+// Ends the client's session of the group that was listed last, and strikes it off; None where none is listed.
+fn close(bank: &mut Bank<ScriptLink>, client: &mut Client, group: Group) -> Option<ShardNo>
     requires serves { Serves bank.old.catalog (count_of bank.old) (seen_of bank.old) }
     requires client { IsClient bank.old.catalog (seen_of bank.old) client.old }
     ensures agree { bank.new.catalog ≡ bank.old.catalog }
@@ -131,9 +226,9 @@ fn close(bank: &mut Bank<ScriptLink>, client: &mut Client) -> Option<ShardNo>
     ensures number { client.new.0.number ≡ client.old.0.number }
     ensures foreign { (shard : ℕ) (who : AWho) → who.tx ≢ client.old.0.number → (seen_of bank.new shard).sessions who ≡ (seen_of bank.old shard).sessions who }
 {
-    let shard = *client.0.main.as_slice().last()?;
-    bank.close(client.0.who(Group::Main), shard);
-    client.0.strike(Group::Main);
+    let shard = *client.0.listed(group).as_slice().last()?;
+    bank.close(client.0.who(group), shard);
+    client.0.strike(group);
     Some(shard)
 }
 
@@ -177,10 +272,12 @@ impl Stage {
     /// Two empty shards, and nobody on them. The link plays a loss on each of them, where one is given.
     pub(crate) fn new(
         alloc: Global,
+        catalog: Catalog,
         first: Option<Loss>,
         second: Option<Loss>,
-    ) -> Result<Stage, Fail> {
-        let catalog = catalog_n(alloc)?;
+    ) -> Result<Stage, Fail>
+        requires { Checked catalog }
+    {
         let Some(2) = catalog.shard_count() else {
             return Err("two shards".into());
         };
@@ -221,6 +318,30 @@ impl Stage {
         Ok(())
     }
 
+    /// Why a statement is refused before it has a program.
+    pub(crate) fn refusal(&self, alloc: Global, text: &str) -> Result<Cause, Fail> {
+        refusal_of(alloc, &self.catalog, text)
+    }
+
+    /// Writes an entry of t1's lookup without a keyspace id, by the client's session for entries on the first shard.
+    pub(crate) fn leave_entry(
+        &mut self,
+        alloc: Global,
+        place: usize,
+        number: u64,
+    ) -> Result<(), Fail> {
+        if place >= self.clients.len() {
+            return Err("a client".into());
+        }
+        leave_entry(
+            alloc,
+            &self.catalog,
+            &mut self.bank,
+            &mut self.clients[place],
+            number,
+        )
+    }
+
     /// A step of the client's statement; None where it has its reply.
     pub(crate) fn step(&mut self, alloc: Global, place: usize) -> Option<ProgramTold> {
         if place >= self.clients.len() {
@@ -234,20 +355,24 @@ impl Stage {
         )
     }
 
-    /// Commits the client's session that was listed last, and tells its shard; None where none is left.
-    pub(crate) fn commit_last(&mut self, place: usize) -> Option<(ShardNo, Committed)> {
+    /// Commits the client's session of the group that was listed last, and tells its shard; None where none is left.
+    pub(crate) fn commit_last(
+        &mut self,
+        place: usize,
+        group: Group,
+    ) -> Option<(ShardNo, Committed)> {
         if place >= self.clients.len() {
             return None;
         }
-        commit(&mut self.bank, &mut self.clients[place])
+        commit(&mut self.bank, &mut self.clients[place], group)
     }
 
-    /// Ends the client's session that was listed last, and tells its shard; None where none is left.
-    pub(crate) fn close_last(&mut self, place: usize) -> Option<ShardNo> {
+    /// Ends the client's session of the group that was listed last, and tells its shard; None where none is left.
+    pub(crate) fn close_last(&mut self, place: usize, group: Group) -> Option<ShardNo> {
         if place >= self.clients.len() {
             return None;
         }
-        close(&mut self.bank, &mut self.clients[place])
+        close(&mut self.bank, &mut self.clients[place], group)
     }
 
     /// Kills the main session of a client session on a shard; false where there is none.
@@ -258,10 +383,10 @@ impl Stage {
         self.bank.drop_session(session, Group::Main, shard)
     }
 
-    /// The shards of the client's sessions, in the order of first use.
-    pub(crate) fn listed(&self, place: usize) -> &[ShardNo] {
+    /// The shards of the client's sessions of the group, in the order of first use.
+    pub(crate) fn listed(&self, place: usize, group: Group) -> &[ShardNo] {
         match self.clients.as_slice().get(place) {
-            Some(client) => client.0.main.as_slice(),
+            Some(client) => client.0.listed(group).as_slice(),
             None => &[],
         }
     }

@@ -1,181 +1,15 @@
-use crate::test_stage::Stage;
-use std::alloc::{AllocError, Global};
+use crate::test_catalogs::catalog_n;
+use crate::test_player::{Call, play_over};
+use std::alloc::Global;
 use std::process::Abort;
 use std::test::Fail;
-use vl_port::committed::Committed;
-use vl_port::limits::Limits;
 use vl_port::loss::Loss;
-use vl_statement::program_told::ProgramTold;
-use vl_values::key::Key;
-use vl_values::reply::Reply;
-use vl_values::row::Row;
-use vl_values::value::Value;
-use vl_values::{SessionNo, ShardNo};
 
 // The one table, n: a number that is the key, and one more. Rows with a key below 9223372036854775808
 // stand on shard 0, the others on shard 1.
-const TABLE: u32 = 0;
-
-// What is done next on the stage, and what has to be seen. Clients are counted as they join.
-#[derive(Clone, Copy)]
-enum Call {
-    /// A transaction of this session, with this limit of tries: whether autocommit is on, and whether it is
-    /// of a single statement.
-    Join(SessionNo, u32, bool, bool),
-    /// A transaction of this session that may make this many changes.
-    JoinFew(SessionNo, u32),
-    /// The client's next statement.
-    Say(usize, &'static str),
-    /// A step after which another action is due.
-    More(usize),
-    /// A step that meets the row of this key, which this session holds, for the first time.
-    Held(usize, SessionNo, u64),
-    /// A step that gives this reply.
-    Reply(usize, &'static str),
-    /// The client's session that was listed last, on this shard, is committed.
-    Commit(usize, ShardNo),
-    /// It is ended without a commit.
-    Close(usize, ShardNo),
-    /// The session that this client session has open on a shard is killed.
-    Drop(SessionNo, ShardNo),
-    /// The shards of the client's sessions, in the order of first use.
-    Listed(usize, &'static [ShardNo]),
-    /// How many acts and commits were carried to a shard.
-    Carried(ShardNo, u64),
-    /// How many messages the link has lost.
-    Lost(u64),
-}
-
-fn limits(tries: u32) -> Limits {
-    Limits {
-        tries,
-        changes: 10_000,
-        result_rows: 100_000,
-        result_bytes: 16_777_216,
-        tail: 16_777_216,
-        trace: false,
-    }
-}
-
-fn one_number(alloc: Global, number: u64) -> Result<Row, AllocError> {
-    Ok(Row::from_vec(vec![in alloc; Value::Uint(number)]?))
-}
-
-fn key(alloc: Global, id: u64) -> Result<Key, AllocError> {
-    let pk = one_number(alloc, id)?;
-    Ok(Key { table: TABLE, pk })
-}
-
-// What a reply says: how many rows were changed and found, or the error; and what is open then.
-fn reply_text(alloc: Global, told: &ProgramTold) -> Result<String, Fail> {
-    match told {
-        ProgramTold::Reply(
-            Reply::Ok {
-                affected,
-                found,
-                warnings,
-                tx,
-                auto,
-            },
-        ) => {
-            let counts = format!(in alloc; "OK {affected} of {found}, warnings {warnings}")?;
-            Ok(format!(in alloc; "{counts}, open {tx}, autocommit {auto}")?)
-        }
-        ProgramTold::Reply(Reply::Err { code, why, tx }) => {
-            let text = why.text();
-            let text = str::from_utf8(text.as_slice()).ok().ok_or("a text")?;
-            Ok(format!(in alloc; "ERR {code} {text}, open {tx}")?)
-        }
-        _ => Err("a statement that is answered".into()),
-    }
-}
-
-fn replies(
-    rt: &impl Abort,
-    alloc: Global,
-    stage: &mut Stage,
-    client: usize,
-    want: &str,
-) -> Result<(), Fail> {
-    let told = stage.step(alloc, client).ok_or("a statement")?;
-    let got = reply_text(alloc, &told)?;
-    assert_eq!(rt; got.as_str(), want);
-    Ok(())
-}
-
-fn waits(
-    rt: &impl Abort,
-    alloc: Global,
-    stage: &mut Stage,
-    client: usize,
-    session: SessionNo,
-    id: u64,
-) -> Result<(), Fail> {
-    let Some(
-        ProgramTold::Held {
-            by,
-            key: held,
-            tries,
-        },
-    ) = stage.step(alloc, client)
-    else {
-        return Err("a row that another holds".into());
-    };
-    assert_eq!(rt; (by, tries), (session, 1));
-    assert_eq!(rt; held, key(alloc, id)?);
-    Ok(())
-}
-
-fn done(rt: &impl Abort, alloc: Global, stage: &mut Stage, call: Call) -> Result<(), Fail> {
-    match call {
-        Call::Join(session, tries, auto, single) => {
-            stage.join(alloc, session, limits(tries), auto, single)?;
-        }
-        Call::Say(client, text) => stage.start(alloc, client, text)?,
-        Call::More(client) => {
-            let more = matches!(stage.step(alloc, client), Some(ProgramTold::More));
-            assert!(rt; more, "another action is due");
-        }
-        Call::Held(client, session, id) => waits(rt, alloc, stage, client, session, id)?,
-        Call::Reply(client, want) => replies(rt, alloc, stage, client, want)?,
-        Call::Commit(client, shard) => {
-            assert_eq!(rt; stage.commit_last(client), Some((shard, Committed::Done)));
-        }
-        Call::JoinFew(session, changes) => {
-            let few = Limits {
-                changes,
-                ..limits(100)
-            };
-            stage.join(alloc, session, few, true, false)?;
-        }
-        Call::Close(client, shard) => assert_eq!(rt; stage.close_last(client), Some(shard)),
-        Call::Drop(session, shard) => {
-            assert!(rt; stage.drop_session(session, shard), "a live session");
-        }
-        Call::Listed(client, shards) => assert_eq!(rt; stage.listed(client), shards),
-        Call::Carried(shard, count) => assert_eq!(rt; stage.carried(shard), count),
-        Call::Lost(count) => assert_eq!(rt; stage.lost(), count),
-    }
-    Ok(())
-}
-
-// The losses are those that the link plays on the first and on the second shard.
-fn play_over(
-    rt: &impl Abort,
-    alloc: Global,
-    first: Option<Loss>,
-    second: Option<Loss>,
-    calls: &[Call],
-) -> Result<(), Fail> {
-    let mut stage = Stage::new(alloc, first, second)?;
-    for call in calls {
-        done(rt, alloc, &mut stage, *call)?;
-    }
-    Ok(())
-}
 
 fn play(rt: &impl Abort, alloc: Global, calls: &[Call]) -> Result<(), Fail> {
-    play_over(rt, alloc, None, None, calls)
+    play_over(rt, alloc, catalog_n(alloc)?, None, None, calls)
 }
 
 static WAITS: [Call; 14] = [
@@ -388,6 +222,35 @@ static CHANGES: [Call; 16] = [
     Call::Carried(0, 4),
 ];
 
+// Rows that a change reads are counted before any is written.
+static RESULTS: [Call; 23] = [
+    Call::JoinShort(1, 2, 100),
+    Call::JoinShort(2, 100, 5),
+    Call::Say(0, "INSERT INTO n(id,v) VALUES(1,5),(2,5),(3,5)"),
+    Call::More(0),
+    Call::More(0),
+    Call::Reply(0, "OK 3 of 3, warnings 0, open true, autocommit true"),
+    // The third row is one too many.
+    Call::Say(0, "UPDATE n SET v=6"),
+    Call::Reply(0, "ERR 1105 Limit of result rows reached: 2, open true"),
+    Call::Carried(0, 4),
+    Call::Say(0, "DELETE FROM n WHERE id IN (1,2)"),
+    Call::More(0),
+    Call::More(0),
+    Call::Reply(0, "OK 2 of 2, warnings 0, open true, autocommit true"),
+    Call::Commit(0, 0),
+    // The rows 3,5 and 4,10 have five bytes together.
+    Call::Say(1, "INSERT INTO n(id,v) VALUES(4,10)"),
+    Call::Reply(1, "OK 1 of 1, warnings 0, open true, autocommit true"),
+    Call::Say(1, "UPDATE n SET v=5 WHERE id IN (3,4)"),
+    Call::More(1),
+    Call::Reply(1, "OK 1 of 2, warnings 0, open true, autocommit true"),
+    Call::Say(1, "INSERT INTO n(id,v) VALUES(6,10)"),
+    Call::Reply(1, "OK 1 of 1, warnings 0, open true, autocommit true"),
+    Call::Say(1, "DELETE FROM n"),
+    Call::Reply(1, "ERR 1105 Limit of result bytes reached: 5, open true"),
+];
+
 #[test]
 fn a_delete_waits_for_the_insert_of_its_row_until_its_limit(rt: HostRuntime) -> Result<(), Fail> {
     play(&rt, rt.alloc(), &WAITS)
@@ -419,7 +282,14 @@ fn a_write_that_is_lost_rolls_its_transaction_back(rt: HostRuntime) -> Result<()
         nth: 2,
         after: false,
     };
-    play_over(&rt, rt.alloc(), Some(second), None, &LOST_BEFORE)
+    play_over(
+        &rt,
+        rt.alloc(),
+        catalog_n(rt.alloc())?,
+        Some(second),
+        None,
+        &LOST_BEFORE,
+    )
 }
 
 #[test]
@@ -432,7 +302,14 @@ fn an_action_whose_answer_is_lost_rolls_its_transaction_back(rt: HostRuntime) ->
         nth: 1,
         after: true,
     };
-    play_over(&rt, rt.alloc(), Some(third), Some(first), &LOST_AFTER)
+    play_over(
+        &rt,
+        rt.alloc(),
+        catalog_n(rt.alloc())?,
+        Some(third),
+        Some(first),
+        &LOST_AFTER,
+    )
 }
 
 #[test]
@@ -443,4 +320,9 @@ fn a_dropped_session_is_told_at_its_next_use(rt: HostRuntime) -> Result<(), Fail
 #[test]
 fn a_write_past_the_limit_of_changes_is_refused(rt: HostRuntime) -> Result<(), Fail> {
     play(&rt, rt.alloc(), &CHANGES)
+}
+
+#[test]
+fn a_change_that_finds_too_many_rows_writes_none(rt: HostRuntime) -> Result<(), Fail> {
+    play(&rt, rt.alloc(), &RESULTS)
 }

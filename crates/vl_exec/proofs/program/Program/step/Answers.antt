@@ -1,32 +1,17 @@
-use Rattle.std.proofs.Common.{ℕ, sym, subst}
-use Rattle.vl_exec.specs.Making.{IsMade}
-use Rattle.vl_exec.proofs.Steps.{stepped_counted, stepped_kept, stepped_locked, stepped_made, stepped_nearer, stepped_owed, stepped_written}
+use Rattle.vl_exec.specs.declared.program.Program.{Program}
+use Rattle.vl_exec.specs.declared.program.Program.TheVariants as programs
+use Rattle.vl_exec.specs.Stepping.{Stepped}
+use Rattle.vl_exec.proofs.Telling.{by_case, still_open}
 use Rattle.vl_exec.proofs.program.Program.step.Goals as goal
 
-pub returns-clause-written : goal.returns-clause-written
-returns-clause-written g c = stepped_written c.args.catalog.now (g.P.ShardPort.count c.args.port.now) c.args.self.now c.advance.new.self c.args.tx.now c.advance.new.tx (g.P.ShardPort.told c.args.port.now) (g.P.ShardPort.told c.advance.new.port) c.advance.result
-    (record { checked = c.requires.checked; serves = c.requires.serves; made = c.requires.made }) c.advance.ensures.tx c.advance.ensures.stepped
+pub returns-in-Insert-clause-stepped : goal.returns-in-Insert-clause-stepped
+returns-in-Insert-clause-stepped g c = by_case (λ (p : Program). Stepped c.args.catalog.now p c.args.tx.now (g.P.ShardPort.told c.args.port.now) c.step.result (programs.Insert c.step.new.self) c.step.new.tx (g.P.ShardPort.told c.step.new.port)) c.args.self.now (programs.Insert c.in-Insert.insert) c.in-Insert.is c.step.ensures.stepped
 
-pub returns-clause-owed : goal.returns-clause-owed
-returns-clause-owed g c = stepped_owed c.args.catalog.now (g.P.ShardPort.count c.args.port.now) c.args.self.now c.advance.new.self c.args.tx.now c.advance.new.tx (g.P.ShardPort.told c.args.port.now) (g.P.ShardPort.told c.advance.new.port) c.advance.result
-    (record { checked = c.requires.checked; serves = c.requires.serves; made = c.requires.made }) c.advance.ensures.tx c.advance.ensures.stepped
+pub returns-in-Select-clause-stepped : goal.returns-in-Select-clause-stepped
+returns-in-Select-clause-stepped g c = by_case (λ (p : Program). Stepped c.args.catalog.now p c.args.tx.now (g.P.ShardPort.told c.args.port.now) c.step-in-Select.result (programs.Select c.step-in-Select.new.self) c.step-in-Select.new.tx (g.P.ShardPort.told c.step-in-Select.new.port)) c.args.self.now (programs.Select c.in-Select.select) c.in-Select.is c.step-in-Select.ensures.stepped
 
-pub returns-clause-kept : goal.returns-clause-kept
-returns-clause-kept g c = stepped_kept c.args.catalog.now c.args.self.now c.advance.new.self c.args.tx.now c.advance.new.tx (g.P.ShardPort.told c.args.port.now) (g.P.ShardPort.told c.advance.new.port) c.advance.result c.advance.ensures.stepped
+pub returns-in-Select-clause-kept : goal.returns-in-Select-clause-kept
+returns-in-Select-clause-kept g c = λ left. c.step-in-Select.ensures.kept (still_open c.step-in-Select.result _ left)
 
-pub returns-clause-locked : goal.returns-clause-locked
-returns-clause-locked g c = stepped_locked c.args.catalog.now c.args.self.now c.advance.new.self c.args.tx.now c.advance.new.tx (g.P.ShardPort.told c.args.port.now) (g.P.ShardPort.told c.advance.new.port) c.advance.result c.advance.ensures.stepped
-
-pub returns-clause-bound : goal.returns-clause-bound
-returns-clause-bound g c = stepped_nearer c.args.catalog.now (g.P.ShardPort.count c.args.port.now) c.args.self.now c.advance.new.self c.args.tx.now c.advance.new.tx (g.P.ShardPort.told c.args.port.now) (g.P.ShardPort.told c.advance.new.port) c.advance.result
-    (record { checked = c.requires.checked; serves = c.requires.serves; made = c.requires.made }) c.advance.ensures.stepped
-
-pub returns-clause-counted : goal.returns-clause-counted
-returns-clause-counted g c = stepped_counted c.args.catalog.now (g.P.ShardPort.count c.args.port.now) c.args.self.now c.advance.new.self c.args.tx.now c.advance.new.tx (g.P.ShardPort.told c.args.port.now) (g.P.ShardPort.told c.advance.new.port) c.advance.result
-    (record { checked = c.requires.checked; serves = c.requires.serves; made = c.requires.made }) c.advance.ensures.stepped
-
-pub returns-clause-made : goal.returns-clause-made
-returns-clause-made g c = λ well.
-    subst (λ (count : ℕ). IsMade c.args.catalog.now count c.advance.new.tx.limits.tries c.advance.new.self) (sym c.advance.ensures.port.counts)
-    (stepped_made c.args.catalog.now (g.P.ShardPort.count c.args.port.now) c.args.self.now c.advance.new.self c.args.tx.now c.advance.new.tx (g.P.ShardPort.told c.args.port.now) (g.P.ShardPort.told c.advance.new.port) c.advance.result
-    (record { checked = c.requires.checked; serves = c.requires.serves; made = c.requires.made }) c.advance.ensures.tx c.advance.ensures.stepped well)
+pub returns-in-Change-clause-stepped : goal.returns-in-Change-clause-stepped
+returns-in-Change-clause-stepped g c = by_case (λ (p : Program). Stepped c.args.catalog.now p c.args.tx.now (g.P.ShardPort.told c.args.port.now) c.step-in-Change.result (programs.Change c.step-in-Change.new.self) c.step-in-Change.new.tx (g.P.ShardPort.told c.step-in-Change.new.port)) c.args.self.now (programs.Change c.in-Change.change) c.in-Change.is c.step-in-Change.ensures.stepped

@@ -1,0 +1,10 @@
+pub mod Asking
+pub mod Beginning
+pub mod Dues
+pub mod Finding
+pub mod Goings
+pub mod Keeping
+pub mod Owing
+pub mod Settings
+pub mod Steps
+pub mod Writings
