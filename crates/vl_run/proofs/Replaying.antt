@@ -15,7 +15,7 @@ use Rattle.vl_port.specs.Holding.{needs}
 use Rattle.vl_port.specs.Serving.{Shards}
 use Rattle.vl_port.specs.View.{Values, View, is_who}
 use Rattle.vl_run.specs.declared.ends.Ends.TheVariants as ends
-use Rattle.vl_run.specs.Machine.{Cell, after, ended_change, ended_holder, is_on, key_place, settled_cell, takes}
+use Rattle.vl_run.specs.Machine.{Cell, after, ended_change, ended_holder, is_on, key_place, settled_cell, taken_by, takes}
 use Rattle.vl_run.specs.Machine.Step.{LetGo, Settle, Take, Write}
 use Rattle.vl_run.specs.Replays.{cell_of, shards_cells}
 use Rattle.vl_run.proofs.Laws.{settle_leaves, take_leaves, write_leaves}
@@ -46,11 +46,11 @@ module _ (catalog : Catalog) (shard : ℕ) (old new : Shards) (others : (t : ℕ
   holder_set who c false = refl
 
   -- the keys that an act obtains are those that its step takes
-  pub take_replays : (who : Who) (act : Act) → new shard ≡ taken who act (old shard) → (k : Key) → shards_cells catalog new k ≡ after catalog (Take who shard act) (shards_cells catalog old) k
+  pub take_replays : (who : Who) (act : Act) → new shard ≡ taken who act (old shard) → (k : Key) → shards_cells catalog new k ≡ after catalog (Take who (taken_by catalog (shards_cells catalog old) shard act)) (shards_cells catalog old) k
   take_replays who act is k = elim (cases_Bool (is_on catalog shard k)) [
     | inl on ↦ on_becomes (taken who act) is k on ∙ holder_set who (shards_cells catalog old k) (needs (old (key_place catalog k)) act k)
         ∙ ap (λ (b : Bool). if b then record (shards_cells catalog old k) { holder = Some who } else shards_cells catalog old k) (takes_is act k ∙ sym (ap (λ (b : Bool). b && takes (shards_cells catalog old) act k) on))
-    | inr off ↦ off_stays k off ∙ sym (take_leaves catalog who shard act (shards_cells catalog old) k (ap (λ (b : Bool). b && takes (shards_cells catalog old) act k) off))
+    | inr off ↦ off_stays k off ∙ sym (take_leaves catalog who (taken_by catalog (shards_cells catalog old) shard act) (shards_cells catalog old) k (ap (λ (b : Bool). b && takes (shards_cells catalog old) act k) off))
   ]
 
   -- a commit that was done settles what its session has changed
@@ -68,15 +68,15 @@ module _ (catalog : Catalog) (shard : ℕ) (old new : Shards) (others : (t : ℕ
   same_written who row c false = refl
 
   pub write_replays : (who : Who) (act : Act) (key : Key) (replaces : Option Key) → is_on catalog shard key ≡ true → ((v : View) (k : Key) → needs v act k ≡ is_key key k) → new shard ≡ written who act (old shard)
-      → (k : Key) → shards_cells catalog new k ≡ after catalog (Write who key (row_left act) replaces) (after catalog (Take who shard act) (shards_cells catalog old)) k
+      → (k : Key) → shards_cells catalog new k ≡ after catalog (Write who key (row_left act) replaces) (after catalog (Take who (taken_by catalog (shards_cells catalog old) shard act)) (shards_cells catalog old)) k
   write_replays who act key replaces home of is k = elim (cases_Bool (is_on catalog shard k)) [
     | inl on ↦ on_becomes (written who act) is k on
         ∙ ap (λ (b : Bool). record (shards_cells catalog old k) { change = if b then Some (record { who = who; row = row_left act }) else (shards_cells catalog old k).change; holder = if b then Some who else (shards_cells catalog old k).holder }) (of (old (key_place catalog k)) k)
         ∙ same_written who (row_left act) (shards_cells catalog old k) (is_key key k)
         ∙ ap (λ (b : Bool). if is_key key k then record (if b then record (shards_cells catalog old k) { holder = Some who } else shards_cells catalog old k) { change = Some (record { who = who; row = row_left act }) } else (if b then record (shards_cells catalog old k) { holder = Some who } else shards_cells catalog old k))
         (sym (of (old (key_place catalog k)) k) ∙ takes_is act k ∙ sym (ap (λ (b : Bool). b && takes (shards_cells catalog old) act k) on))
-    | inr off ↦ off_stays k off ∙ sym (write_leaves catalog who key (row_left act) replaces (after catalog (Take who shard act) (shards_cells catalog old)) k (elsewhere k off)
-        ∙ take_leaves catalog who shard act (shards_cells catalog old) k (ap (λ (b : Bool). b && takes (shards_cells catalog old) act k) off))
+    | inr off ↦ off_stays k off ∙ sym (write_leaves catalog who key (row_left act) replaces (after catalog (Take who (taken_by catalog (shards_cells catalog old) shard act)) (shards_cells catalog old)) k (elsewhere k off)
+        ∙ take_leaves catalog who (taken_by catalog (shards_cells catalog old) shard act) (shards_cells catalog old) k (ap (λ (b : Bool). b && takes (shards_cells catalog old) act k) off))
   ]
     where
       elsewhere : (k : Key) → is_on catalog shard k ≡ false → is_key key k ≡ false

@@ -29,7 +29,7 @@ use Rattle.vl_run.specs.Allowed.IsDone.{DidAct, DidCommit}
 use Rattle.vl_run.specs.Allowed.IsVisit.{ByAct, ByCommit}
 use Rattle.vl_run.specs.Allowed.Opens.{First, Later}
 use Rattle.vl_run.specs.Gathered.{shown}
-use Rattle.vl_run.specs.Machine.{Cell, Clash, after, is_entry, is_on, key_place, let_go, of_tx, seen_in, settled_cell, view}
+use Rattle.vl_run.specs.Machine.{Cell, Clash, after, is_entry, is_on, key_place, let_go, of_tx, seen_in, settled_cell, taken_by, view}
 use Rattle.vl_run.specs.Machine.Clash.{SameKey, SameValue}
 use Rattle.vl_run.specs.Machine.Step.{Take}
 use Rattle.vl_run.specs.Named.{key_in, needed}
@@ -37,7 +37,7 @@ use Rattle.vl_run.specs.Named.IsClaimOver.{None_}
 use Rattle.vl_run.specs.Named.IsDue.{Inserts}
 use Rattle.vl_run.specs.Named.Purpose.{Inserting}
 use Rattle.vl_run.specs.Refused.{nothing_read}
-use Rattle.vl_run.specs.Run.{Run, rows_of, state}
+use Rattle.vl_run.specs.Run.{Run, cells, rows_of, state}
 use Rattle.vl_run.specs.Run.Point.{Happened}
 use Rattle.vl_run.specs.Session.{Owned}
 use Rattle.vl_run.proofs.Laws.{insert_takes}
@@ -86,16 +86,20 @@ module _ (catalog : Catalog) (limits : Limits) (t : TableName) (names : List (Li
   taken_same c who true = refl
   taken_same c who false = refl
 
-  taken_none : (k : Key) → view (after catalog (Take me shard (Insert key row)) (state catalog joined_run)) me k ≡ None
+  -- the keys that the row's write obtains
+  abbrev keys : Key → Bool
+  keys = taken_by catalog (cells catalog joined_run) shard (Insert key row)
+
+  taken_none : (k : Key) → view (after catalog (Take me keys) (state catalog joined_run)) me k ≡ None
   taken_none k = taken_same (state catalog joined_run k) me (is_on catalog shard k && is_key key k) ∙ none_in me (is_entry catalog k)
 
-  no_seen : (k : Key) (other : Values) → view (after catalog (Take me shard (Insert key row)) (state catalog joined_run)) me k ≡ Some other → ⊥
+  no_seen : (k : Key) (other : Values) → view (after catalog (Take me keys) (state catalog joined_run)) me k ≡ Some other → ⊥
   no_seen k other seen = absurd (none_some (sym (taken_none k) ∙ seen))
     where
       none_some : None ≡ Some other → ⊥
       none_some same = cc
 
-  no_clash : Clash catalog (after catalog (Take me shard (Insert key row)) (state catalog joined_run)) me key row None → ⊥
+  no_clash : Clash catalog (after catalog (Take me keys) (state catalog joined_run)) me key row None → ⊥
   no_clash (SameKey k other seen apart same) = no_seen k other seen
   no_clash (SameValue lookup c k other among unique column seen apart indexed other_indexed equal) = no_seen k other seen
 
@@ -135,7 +139,7 @@ module _ (catalog : Catalog) (limits : Limits) (t : TableName) (names : List (Li
       may = record { spared = refl; within = λ write. room; uncrossed = tt };
       visit = ByAct me shard (Insert key row) marks.Writes;
       ends = refl;
-      steps = (λ k on takes hand. absurd (cc), (((me, insert_takes catalog 1 1 shard key row (state catalog joined_run) is_home, refl), no_clash), (tt, tt)));
+      steps = (λ k taken hand. absurd (cc), (((me, insert_takes catalog 1 1 shard key row (state catalog joined_run) (cells catalog joined_run) is_home, refl), no_clash), (tt, tt)));
       told = refl;
       allowed = (record { sound = refl; come = tt }, λ rows counts gathered. ap (λ (r : List (Key × Values)). first_over limits nothing_read r) gathered, λ plan over. absurd (cc));
       true_ = tt;

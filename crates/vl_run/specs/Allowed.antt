@@ -47,7 +47,7 @@ use Rattle.vl_run.specs.Named.{ComesTo, HasWorked, IsCommitDue, IsMarked, IsNext
 use Rattle.vl_run.specs.Numbers.{IsNextFree, last_event, most_sessions}
 use Rattle.vl_run.specs.Progress.{commits, has_written, session, tries, warned, wrote}
 use Rattle.vl_run.specs.Refused.{IsHeld, IsWithin, MayDo, Refuses}
-use Rattle.vl_run.specs.Run.{Run, at, is_broken, joined, named, next_tx, nowhere, seat, state, was_killed}
+use Rattle.vl_run.specs.Run.{Run, at, cells, is_broken, joined, named, next_tx, nowhere, seat, state, was_killed}
 use Rattle.vl_run.specs.Run.Point.{Began, Happened}
 use Rattle.vl_run.specs.Session.{IsTold, Kind, Owned, Session, is_committing, is_kept, kind_of, opens_first}
 use Rattle.vl_run.specs.Session.Kind.{Begins, Commits, RollsBack, SetsAuto, Stays, Works}
@@ -273,7 +273,7 @@ pub record Answers (catalog : Catalog) (limits : Limits) (past : Run) (e : Event
   pub visit : IsVisit catalog (shown catalog past) (now_of e past) e.session stmt (session (now_of e past) e.session).owned e.deed e.visits
   pub ends : e.ends ≡ ends_due e.told (kind_of stmt) e.deed (session (now_of e past) e.session).owned
   -- each step of the one table may be made: no key is in another's hand, and no row clashes
-  pub steps : CanStepAll catalog (is_broken past) (state catalog past) (steps_of e)
+  pub steps : CanStepAll catalog (is_broken past) (state catalog past) (steps_of catalog (cells catalog past) e)
   pub told : tag_of what ≡ e.told
   pub allowed : Allows catalog limits past e e.session stmt (session (now_of e past) e.session) what
   -- whether a transaction stays open, and autocommit, are told truly; and one that doesn't stay open has nothing left

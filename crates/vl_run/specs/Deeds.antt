@@ -1,8 +1,9 @@
--- The steps of a deed.
+-- The steps of a deed. `seen` is what rows and entries are before it: it says which keys an act obtains.
 use Rattle.std.specs.Prelude.{ℕ, List, [], ◌∷◌, ◌++◌, Option, Some, None}
 use Rattle.vl_values.specs.declared.group.Group.{Group}
 use Rattle.vl_values.specs.declared.group.Group.TheVariants.{Pre, Main, Post}
 use Rattle.vl_values.specs.declared.key.Key.{Key}
+use Rattle.vl_catalog.specs.declared.catalog.Catalog.{Catalog}
 use Rattle.vl_port.specs.declared.act.Act.{Act}
 use Rattle.vl_port.specs.declared.act.Act.TheVariants.{Insert, Put, Remove, RemoveIf, Find}
 use Rattle.vl_port.specs.declared.who.Who.{Who}
@@ -13,7 +14,7 @@ use Rattle.vl_run.specs.declared.ends.Ends.TheVariants as ends
 use Rattle.vl_run.specs.declared.event.Event.{Event}
 use Rattle.vl_run.specs.declared.mark.Mark.{Mark}
 use Rattle.vl_run.specs.declared.mark.Mark.TheVariants as marks
-use Rattle.vl_run.specs.Machine.{Step}
+use Rattle.vl_run.specs.Machine.{Machine, Step, taken_by}
 use Rattle.vl_run.specs.Machine.Step.{LetGo, Settle, Take, Write}
 
 -- ---- writes
@@ -50,12 +51,12 @@ row_writes (Some Pre) who act = []
 row_writes (Some Main) who act = writes who act
 row_writes (Some Post) who act = []
 
-abbrev pub act_steps : Mark → Who → ℕ → Act → List Step
-act_steps marks.Opens who shard act = []
-act_steps marks.Takes who shard act = Take who shard act ∷ []
-act_steps marks.Looks who shard act = Take who shard act ∷ []
-act_steps marks.Reads who shard act = Take who shard act ∷ []
-act_steps marks.Writes who shard act = Take who shard act ∷ row_writes who.group who act
+abbrev pub act_steps : Catalog → Machine → Mark → Who → ℕ → Act → List Step
+act_steps catalog seen marks.Opens who shard act = []
+act_steps catalog seen marks.Takes who shard act = Take who (taken_by catalog seen shard act) ∷ []
+act_steps catalog seen marks.Looks who shard act = Take who (taken_by catalog seen shard act) ∷ []
+act_steps catalog seen marks.Reads who shard act = Take who (taken_by catalog seen shard act) ∷ []
+act_steps catalog seen marks.Writes who shard act = Take who (taken_by catalog seen shard act) ∷ row_writes who.group who act
 
 abbrev pub commit_steps : Option Group → Who → ℕ → List Step
 commit_steps None who shard = []
@@ -63,15 +64,15 @@ commit_steps (Some Pre) who shard = LetGo (ends.One who shard) ∷ []
 commit_steps (Some Main) who shard = Settle who shard ∷ []
 commit_steps (Some Post) who shard = LetGo (ends.One who shard) ∷ []
 
-abbrev pub deed_steps : Deed → List Step
-deed_steps deeds.Nothing = []
-deed_steps (deeds.Acts who shard act mark) = act_steps mark who shard act
-deed_steps (deeds.Commits who shard) = commit_steps who.group who shard
-deed_steps (deeds.Fails who shard) = []
+abbrev pub deed_steps : Catalog → Machine → Deed → List Step
+deed_steps catalog seen deeds.Nothing = []
+deed_steps catalog seen (deeds.Acts who shard act mark) = act_steps catalog seen mark who shard act
+deed_steps catalog seen (deeds.Commits who shard) = commit_steps who.group who shard
+deed_steps catalog seen (deeds.Fails who shard) = []
 
 -- what was done, and then the sessions that ended
-abbrev pub steps_of : Event → List Step
-steps_of e = deed_steps e.deed ++ LetGo e.ends ∷ []
+abbrev pub steps_of : Catalog → Machine → Event → List Step
+steps_of catalog seen e = deed_steps catalog seen e.deed ++ LetGo e.ends ∷ []
 
 -- ---- the same where entries have versions too, as the shards have them
 
@@ -82,18 +83,18 @@ version_writes marks.Looks who act = []
 version_writes marks.Reads who act = []
 version_writes marks.Writes who act = writes who act
 
-abbrev pub act_takes : Mark → Who → ℕ → Act → List Step
-act_takes marks.Opens who shard act = []
-act_takes marks.Takes who shard act = Take who shard act ∷ []
-act_takes marks.Looks who shard act = Take who shard act ∷ []
-act_takes marks.Reads who shard act = Take who shard act ∷ []
-act_takes marks.Writes who shard act = Take who shard act ∷ []
+abbrev pub act_takes : Catalog → Machine → Mark → Who → ℕ → Act → List Step
+act_takes catalog seen marks.Opens who shard act = []
+act_takes catalog seen marks.Takes who shard act = Take who (taken_by catalog seen shard act) ∷ []
+act_takes catalog seen marks.Looks who shard act = Take who (taken_by catalog seen shard act) ∷ []
+act_takes catalog seen marks.Reads who shard act = Take who (taken_by catalog seen shard act) ∷ []
+act_takes catalog seen marks.Writes who shard act = Take who (taken_by catalog seen shard act) ∷ []
 
-abbrev pub deed_moves : Deed → List Step
-deed_moves deeds.Nothing = []
-deed_moves (deeds.Acts who shard act mark) = act_takes mark who shard act ++ version_writes mark who act
-deed_moves (deeds.Commits who shard) = Settle who shard ∷ []
-deed_moves (deeds.Fails who shard) = []
+abbrev pub deed_moves : Catalog → Machine → Deed → List Step
+deed_moves catalog seen deeds.Nothing = []
+deed_moves catalog seen (deeds.Acts who shard act mark) = act_takes catalog seen mark who shard act ++ version_writes mark who act
+deed_moves catalog seen (deeds.Commits who shard) = Settle who shard ∷ []
+deed_moves catalog seen (deeds.Fails who shard) = []
 
-abbrev pub moves_of : Event → List Step
-moves_of e = deed_moves e.deed ++ LetGo e.ends ∷ []
+abbrev pub moves_of : Catalog → Machine → Event → List Step
+moves_of catalog seen e = deed_moves catalog seen e.deed ++ LetGo e.ends ∷ []

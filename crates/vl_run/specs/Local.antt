@@ -1,5 +1,5 @@
 -- The result sets of the statements that read no table.
-use Rattle.std.specs.Prelude.{ℕ, Bool, true, false, List, [], ◌∷◌, map, filter, codes, IsPermutation, Option, Some, None, slice_get}
+use Rattle.std.specs.Prelude.{◌≡◌, ℕ, Bool, true, false, List, [], ◌∷◌, map, filter, codes, IsPermutation, Option, Some, None, slice_get}
 use Rattle.std.specs.Cmp.Lexicographic.{slice_cmp}
 use Rattle.std.specs.List.Sorted.{IsSorted}
 use Rattle.std.specs.Option.{option_map_or}
@@ -50,8 +50,13 @@ chosen_value (Some name) = Bytes name
 
 -- the columns and the rows of a statement that reads no table, where it has a result set
 pub data IsLocal (catalog : Catalog) (chosen : Option (List ℕ)) (warnings : List Warning) : Stmt → List ReplyColumn → List (List Value) → Type 0 where
-  Tables : (names : List (List ℕ)) → AreByBytes (tables_in catalog chosen) names → IsLocal catalog chosen warnings stmts.ShowTables (text_column (codes "Tables") ∷ []) (text_rows names)
-  Databases : IsLocal catalog chosen warnings stmts.ShowDatabases (text_column (codes "Database") ∷ []) (text_rows (map (λ (keyspace : Keyspace). keyspace.name) catalog.keyspaces))
-  Warnings : IsLocal catalog chosen warnings stmts.ShowWarnings (text_column (codes "Level") ∷ number_column (codes "Code") ∷ text_column (codes "Message") ∷ []) (map warning_row warnings)
-  Version : IsLocal catalog chosen warnings stmts.SelectVersionComment (text_column (codes "@@version_comment") ∷ []) (text_rows (codes "vtgate_cl" ∷ []))
-  Database : IsLocal catalog chosen warnings stmts.SelectDatabase (text_column (codes "DATABASE()") ∷ []) ((chosen_value chosen ∷ []) ∷ [])
+  Tables : (names : List (List ℕ)) (columns : List ReplyColumn) (rows : List (List Value)) → AreByBytes (tables_in catalog chosen) names → columns ≡ text_column (codes "Tables") ∷ [] → rows ≡ text_rows names
+      → IsLocal catalog chosen warnings stmts.ShowTables columns rows
+  Databases : (columns : List ReplyColumn) (rows : List (List Value)) → columns ≡ text_column (codes "Database") ∷ [] → rows ≡ text_rows (map (λ (keyspace : Keyspace). keyspace.name) catalog.keyspaces)
+      → IsLocal catalog chosen warnings stmts.ShowDatabases columns rows
+  Warnings : (columns : List ReplyColumn) (rows : List (List Value)) → columns ≡ text_column (codes "Level") ∷ number_column (codes "Code") ∷ text_column (codes "Message") ∷ [] → rows ≡ map warning_row warnings
+      → IsLocal catalog chosen warnings stmts.ShowWarnings columns rows
+  Version : (columns : List ReplyColumn) (rows : List (List Value)) → columns ≡ text_column (codes "@@version_comment") ∷ [] → rows ≡ text_rows (codes "vtgate_cl" ∷ [])
+      → IsLocal catalog chosen warnings stmts.SelectVersionComment columns rows
+  Database : (columns : List ReplyColumn) (rows : List (List Value)) → columns ≡ text_column (codes "DATABASE()") ∷ [] → rows ≡ (chosen_value chosen ∷ []) ∷ []
+      → IsLocal catalog chosen warnings stmts.SelectDatabase columns rows

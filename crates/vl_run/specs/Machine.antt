@@ -71,8 +71,8 @@ is_entry catalog key = is_lookup_table catalog key.table
 -- ---- steps
 
 pub data Step : Type 0 where
-  -- the keys that an act on a shard must obtain join the hand of its transaction
-  Take : Who → ℕ → Act → Step
+  -- keys join the hand of a shard session's transaction
+  Take : Who → (Key → Bool) → Step
   -- a row is written or removed; what it replaces, if it replaces one
   Write : Who → Key → Option Values → Option Key → Step
   -- a shard session was committed: its changes there become rows, and its keys leave the hand
@@ -112,9 +112,13 @@ module _ (catalog : Catalog) where
   abbrev pub is_on : ℕ → Key → Bool
   is_on shard k = key_place catalog k == shard
 
+  -- the keys that an act on a shard obtains, where this is what rows and entries are before it
+  abbrev pub taken_by : Machine → ℕ → Act → Key → Bool
+  taken_by seen shard act k = is_on shard k && takes seen act k
+
   -- the machine after a step
   abbrev pub after : Step → Machine → Machine
-  after (Take who shard act) u k = if is_on shard k && takes u act k then record (u k) { holder = Some who } else u k
+  after (Take who keys) u k = if keys k then record (u k) { holder = Some who } else u k
   after (Write who key row old) u k = if is_key key k then record (u k) { change = Some (record { who = who; row = row }) } else u k
   after (Settle who shard) u k = if is_on shard k then settled_cell who (u k) else u k
   after (LetGo gone) u k = let_go gone (key_place catalog k) (u k)
@@ -146,7 +150,7 @@ MayWrite catalog u false who key (Some row) old = Clash catalog u who key row ol
 module _ (catalog : Catalog) (is_broken : ℕ → Bool) where
   -- where a step may be made
   abbrev pub CanStep : Machine → Step → Type 0
-  CanStep u (Take who shard act) = (k : Key) → is_on catalog shard k ≡ true → takes u act k ≡ true → InHand u who.tx k → ⊥
+  CanStep u (Take who keys) = (k : Key) → keys k ≡ true → InHand u who.tx k → ⊥
   CanStep u (Write who key row old) = ((holder : Who) × ((u key).holder ≡ Some holder) × (holder.tx ≡ who.tx)) × MayWrite catalog u (is_broken who.tx) who key row old
   CanStep u (Settle who shard) = Unit {0}
   CanStep u (LetGo gone) = Unit {0}

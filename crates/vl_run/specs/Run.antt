@@ -52,17 +52,17 @@ abbrev pub opened_state : Catalog → Opening → Machine
 opened_state catalog opening k = record { row = rows_of (is_entry catalog k) (opening.base k); change = None; holder = None }
 
 module _ (catalog : Catalog) where
-  -- the one table after the run
-  abbrev pub state : Run → Machine
-  state [] = opened_state catalog nowhere
-  state (Began opening ∷ past) = opened_state catalog opening
-  state (Happened e ∷ past) = after_all catalog (steps_of e) (state past)
-
-  -- the same with the versions of entries, as the shards have them
+  -- rows and the versions of entries after the run, as the shards have them
   abbrev pub cells : Run → Machine
   cells [] = opened_cells nowhere
   cells (Began opening ∷ past) = opened_cells opening
-  cells (Happened e ∷ past) = after_all catalog (moves_of e) (cells past)
+  cells (Happened e ∷ past) = after_all catalog (moves_of catalog (cells past) e) (cells past)
+
+  -- the one table after the run: it has no entries, and yet the keys of those that are in a hand
+  abbrev pub state : Run → Machine
+  state [] = opened_state catalog nowhere
+  state (Began opening ∷ past) = opened_state catalog opening
+  state (Happened e ∷ past) = after_all catalog (steps_of catalog (cells past) e) (state past)
 
   -- what is committed of a key: what was there at the opening, with the changes of all commits that were done
   abbrev pub committed : Run → Key → Option Values
