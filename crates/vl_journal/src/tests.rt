@@ -1,3 +1,6 @@
+ghost use Rattle.std.specs.Prelude.{◌≤◌, ◌<◌, ◌+◌, ◌^◌, IsTrue};
+ghost use Rattle.vl_journal.specs.Journals.{IsReady};
+
 use crate::{Journal, JournalFault};
 use std::alloc::Global;
 use std::test::Fail;
@@ -12,6 +15,12 @@ static FILE: [u8; 133] = [
     1, 0, 0, 0, 0, 0, 0, 0, 1, 0, 2, 1, 0, 0, 0, 0, 0, 0, 0, 1, 2, 0, 2, 1, 0, 0, 0, 0, 0, 0, 0, 2,
     7, 0, 0, 0, 0, 0, 0, 0, 0xa7, 31, 0, 0, 0, 1, 0, 6, 0, 0, 0, 0, 0, 0, 0, 1, 1, 0, 0, 0, 0, 0,
     0, 0, 1, 0, 2, 1, 0, 0, 0, 0, 0, 0, 0, 0, 0, 0xa7, 0xa7, 0xa7,
+];
+
+// The second record of it and a closed gate.
+static RECORD: [u8; 36] = [
+    31, 0, 0, 0, 1, 0, 6, 0, 0, 0, 0, 0, 0, 0, 1, 1, 0, 0, 0, 0, 0, 0, 0, 1, 0, 2, 1, 0, 0, 0, 0,
+    0, 0, 0, 0, 0,
 ];
 
 static PICKS: [Pick; 4] = [Pick::None, Pick::All, Pick::Half, Pick::Gates];
@@ -63,6 +72,62 @@ fn a_creation_that_stops_stores_nothing(rt: HostRuntime) -> Result<(), Fail> {
             disk.reserve(64, 1)?;
             disk.revive(pick);
             assert_eq!(rt; found(alloc, &catalog, disk)?, (0, 37));
+        }
+    }
+    Ok(())
+}
+
+// How many appends are stored, and where the journal then ends.
+static STORED: [(usize, u64); 4] = [(0, 37), (1, 73), (2, 109), (3, 145)];
+
+// How many of three appends are done before one fails.
+fn done_of<D: Disk>(journal: &mut Journal<D>) -> usize
+    requires ready { IsTrue (D.told journal.old.disk).is_honest → IsReady (D.told journal.old.disk) journal.old.end }
+    requires number { journal.old.end + 109 < 2 ^ 64 }
+    requires room { journal.old.end + 109 ≤ (D.told journal.old.disk).room }
+    requires spare { 12 ≤ (D.told journal.old.disk).spare }
+    ensures { result ≤ 3 }
+{
+    let Ok(()) = journal.append(&RECORD) else {
+        return 0;
+    };
+    let Ok(()) = journal.append(&RECORD) else {
+        return 1;
+    };
+    let Ok(()) = journal.append(&RECORD) else {
+        return 2;
+    };
+    3
+}
+
+// A stop at each device call of three appends, with each pick: each that was told as done is stored, and the one that
+// stopped is or isn't.
+#[test]
+fn an_append_that_stops_is_stored_or_not(rt: HostRuntime) -> Result<(), Fail> {
+    let alloc = rt.alloc();
+    let catalog = Catalog::a(alloc)?;
+    let Some(_) = catalog.shard_count() else {
+        return Err("shards that can be counted".into());
+    };
+    for calls in 1..13 {
+        for pick in PICKS {
+            let disk = MemoryDisk::new(alloc, Vec::new(alloc), Vec::new(alloc))?;
+            let Ok(opened) = Journal::open(alloc, disk, &catalog, 0) else {
+                return Err("an opening".into());
+            };
+            let mut journal = opened.journal;
+            if journal.end() != 37 {
+                return Err("a side without records".into());
+            }
+            journal.reserve(256, 16)?;
+            journal.arm(calls, Stop::Crash);
+            let done = done_of(&mut journal);
+            let mut disk = journal.into_disk();
+            disk.reserve(256, 1)?;
+            disk.revive(pick);
+            let told = found(alloc, &catalog, disk)?;
+            let stored = STORED.get(done) == Some(&told);
+            assert!(rt; stored || STORED.get(done + 1) == Some(&told));
         }
     }
     Ok(())

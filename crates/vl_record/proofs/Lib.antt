@@ -7,4 +7,4 @@ pub mod ReadFile
 pub mod Putting
 pub mod Taken
 pub mod TakenFile
-pub mod Recorded
+pub mod Collecting

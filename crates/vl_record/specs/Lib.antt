@@ -5,3 +5,5 @@ pub mod Readers
 pub mod Grammar
 pub mod Writing
 pub mod Stored
+pub mod Collected
+pub mod Picking

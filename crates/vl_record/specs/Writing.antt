@@ -3,7 +3,6 @@ use Rattle.std.specs.Prelude.{◌<◌, ◌^◌, ℕ, List, length, All, Option, 
 use Rattle.vl_values.specs.declared.key.Key.{Key}
 use Rattle.vl_values.specs.declared.value.Value.{Value}
 use Rattle.vl_catalog.specs.declared.change.Change.{Change}
-use Rattle.vl_catalog.specs.declared.part.Part.{Part}
 use Rattle.vl_record.specs.Grammar.{FitsField}
 
 -- the number of values and each value's length fit their fields
@@ -18,7 +17,3 @@ IsField (Some row) = AreFields row
 pub record IsWritable (change : Change) : Type 0 where
   pub key : AreFields change.key.pk
   pub row : IsField change.row
-
-pub record IsWritablePart (part : Part) : Type 0 where
-  pub few : length part.changes < 2 ^ 32
-  pub each : All IsWritable part.changes

@@ -35,7 +35,10 @@ fn mark_at(r: Reader<'_>) -> Result<Reader<'_>, ReadError>
 
 // The epoch, and the greatest transaction number before the records.
 #[tactic(auto, unfolding(crate::specs::Reading::header_at))]
-fn header_at(shard: ShardNo, r: Reader<'_>) -> Result<((u64, u64), Reader<'_>), ReadError>
+pub(crate) fn header_at(
+    shard: ShardNo,
+    r: Reader<'_>,
+) -> Result<((u64, u64), Reader<'_>), ReadError>
     ensures { Gives (λ x. (x.0, rest_of x.1)) result (header_at shard (rest_of r.entry)) }
 {
     let rest = mark_at(r)?;

@@ -1,7 +1,14 @@
-use crate::{ReadError, read};
+ghost use Rattle.std.specs.Prelude.{◌≡◌, ◌∷◌, [], IfOk};
+ghost use Rattle.vl_values.specs.declared.value.Value.TheVariants.{Uint};
+
+use crate::{FileSide, ReadError, Rec, epoch_of, pick, read};
 use std::alloc::Global;
 use std::test::Fail;
 use vl_catalog::Catalog;
+use vl_values::group::Group;
+use vl_values::key::Key;
+use vl_values::row::Row;
+use vl_values::value::Value;
 
 // Side a of shard 0 of the built-in catalog: two records of one part each, a closed gate, and bytes behind it that look
 // like open gates. The first gives row 1 of table 0 the value 7, the second removes the row.
@@ -110,5 +117,75 @@ fn each_prefix_is_told(rt: HostRuntime) -> Result<(), Fail> {
     for len in 1..130 {
         assert_eq!(rt; told(rt.alloc(), &catalog, &FILE[..len])?, len);
     }
+    Ok(())
+}
+
+// A record of transaction 5 and a closed gate: key 1 of table 0 has the row (1, 7), and key 2 is removed.
+static COLLECTED: [u8; 72] = [
+    67, 0, 0, 0, 1, 0, 5, 0, 0, 0, 0, 0, 0, 0, 1, 2, 0, 0, 0, 0, 0, 0, 0, 1, 0, 2, 1, 0, 0, 0, 0,
+    0, 0, 0, 1, 2, 0, 2, 1, 0, 0, 0, 0, 0, 0, 0, 2, 7, 0, 0, 0, 0, 0, 0, 0, 0, 0, 0, 0, 1, 0, 2, 2,
+    0, 0, 0, 0, 0, 0, 0, 0, 0,
+];
+
+fn key_of(alloc: Global, id: u64) -> Result<Key, Fail>
+    ensures { IfOk result (λ key. key.pk ≡ Uint id ∷ []) }
+{
+    Ok(Key {
+        table: 0,
+        pk: Row::from_vec(vec![in alloc; Value::Uint(id)]?),
+    })
+}
+
+fn put_row(alloc: Global, rec: &mut Rec, id: u64, u: u64) -> Result<(), Fail> {
+    let key = key_of(alloc, id)?;
+    let row = Row::from_vec(vec![in alloc; Value::Uint(id), Value::Uint(u)]?);
+    rec.push(&key, Some(&row))?;
+    Ok(())
+}
+
+fn remove_row(alloc: Global, rec: &mut Rec, id: u64) -> Result<(), Fail> {
+    let key = key_of(alloc, id)?;
+    rec.push(&key, None)?;
+    Ok(())
+}
+
+// The changes stand in the order of their keys, each key with its last change, whatever order they came in.
+#[test]
+fn changes_stand_in_the_order_of_keys(rt: HostRuntime) -> Result<(), Fail> {
+    let alloc = rt.alloc();
+    let mut rec = Rec::new(alloc, 5, Group::Main);
+    put_row(alloc, &mut rec, 2, 9)?;
+    put_row(alloc, &mut rec, 1, 7)?;
+    remove_row(alloc, &mut rec, 2)?;
+    let mut bytes = Vec::new(alloc);
+    rec.put_into(&mut bytes)?;
+    assert_eq!(rt; bytes.as_slice(), &COLLECTED[..]);
+    assert_eq!(rt; rec.len(), 72);
+    Ok(())
+}
+
+// The epochs of side a and of side b, none where the file gate is closed, and the side in use.
+static PICKED: [(Option<u64>, Option<u64>, FileSide); 6] = [
+    (None, None, FileSide::A),
+    (Some(1), None, FileSide::A),
+    (None, Some(2), FileSide::B),
+    (Some(1), Some(2), FileSide::B),
+    (Some(3), Some(2), FileSide::A),
+    (Some(2), Some(2), FileSide::A),
+];
+
+#[test]
+fn the_greater_epoch_is_picked(rt: HostRuntime) -> Result<(), Fail> {
+    for (a, b, want) in PICKED {
+        assert_eq!(rt; pick(a, b), want);
+    }
+    assert_eq!(rt; epoch_of(0, &FILE).ok(), Some(Some(1)));
+    assert_eq!(rt; epoch_of(0, &FILE[..29]).ok(), Some(Some(1)));
+    assert_eq!(rt;
+        epoch_of(0, &FILE[..28]).err(),
+        Some(ReadError::NotOurs(28))
+    );
+    assert_eq!(rt; epoch_of(1, &FILE).err(), Some(ReadError::NotOurs(9)));
+    assert_eq!(rt; epoch_of(0, &[0, 0xa7]).ok(), Some(None));
     Ok(())
 }

@@ -1,13 +1,13 @@
-ghost use Rattle.std.specs.Prelude.{All, ◌≡◌, ◌<◌, ◌≤◌, ◌+◌, ◌^◌, ◌++◌, ◌∷◌, [], length, vec_len, vec_capacity, OnOk, OnErr};
+ghost use Rattle.std.specs.Prelude.{◌≡◌, ◌<◌, ◌≤◌, ◌+◌, ◌^◌, ◌++◌, ◌∷◌, [], length, vec_len, vec_capacity, OnOk, OnErr};
 ghost use Rattle.std.specs.List.{flat_map};
 ghost use Rattle.std.specs.Int.{w16, w32, w64};
 ghost use Rattle.std.specs.Option.{option_copied};
-ghost use Rattle.vl_record.specs.Spelling.{change_bytes, group_byte, key_bytes, new_row_bytes, number_bytes, part_bytes, value_bytes, values_bytes};
+ghost use Rattle.vl_record.specs.Spelling.{change_bytes, group_byte, key_bytes, new_row_bytes, number_bytes, value_bytes, values_bytes};
 ghost use Rattle.vl_record.specs.Grammar.{FitsField};
-ghost use Rattle.vl_record.specs.Writing.{AreFields, IsField, IsWritable, IsWritablePart};
+ghost use Rattle.vl_record.specs.Collected.{change_of};
+ghost use Rattle.vl_record.specs.Writing.{AreFields, IsField, IsWritable};
 
 use std::alloc::AllocError;
-use vl_catalog::{Change, Part};
 use vl_values::group::Group;
 use vl_values::key::Key;
 use vl_values::row::Row;
@@ -106,11 +106,11 @@ pub(crate) fn put_key(out: &mut Vec<u8>, key: &Key) -> Result<(), AllocError>
     put_values(out, key.pk.as_slice())
 }
 
-fn put_new_row(out: &mut Vec<u8>, row: &Option<Row>) -> Result<(), AllocError>
-    requires { IsField row.now }
-    ensures items { OnOk result (out.new.items ≡ out.old.items ++ new_row_bytes row.now) }
+fn put_new_row(out: &mut Vec<u8>, row: Option<&Row>) -> Result<(), AllocError>
+    requires { IsField (option_copied row) }
+    ensures items { OnOk result (out.new.items ≡ out.old.items ++ new_row_bytes (option_copied row.entry)) }
     ensures capacity { vec_capacity out.old ≤ vec_capacity out.new }
-    ensures full { OnErr result (vec_capacity out.old < vec_len out.old + length (new_row_bytes row.now)) }
+    ensures full { OnErr result (vec_capacity out.old < vec_len out.old + length (new_row_bytes (option_copied row.entry))) }
 {
     match row {
         None => put_u8(out, 0),
@@ -121,30 +121,18 @@ fn put_new_row(out: &mut Vec<u8>, row: &Option<Row>) -> Result<(), AllocError>
     }
 }
 
-/// Adds a change's bytes.
-pub fn put_change(out: &mut Vec<u8>, change: &Change) -> Result<(), AllocError>
-    requires { IsWritable change.now }
-    ensures items { OnOk result (out.new.items ≡ out.old.items ++ change_bytes change.now) }
+/// Adds a change's bytes: the key has this row, or is removed.
+pub(crate) fn put_change(out: &mut Vec<u8>, key: &Key, row: Option<&Row>) -> Result<(), AllocError>
+    requires { IsWritable (change_of (key.now, option_copied row)) }
+    ensures items { OnOk result (out.new.items ≡ out.old.items ++ change_bytes (change_of (key.now, option_copied row.entry))) }
     ensures capacity { vec_capacity out.old ≤ vec_capacity out.new }
-    ensures full { OnErr result (vec_capacity out.old < vec_len out.old + length (change_bytes change.now)) }
+    ensures full { OnErr result (vec_capacity out.old < vec_len out.old + length (change_bytes (change_of (key.now, option_copied row.entry)))) }
 {
-    put_key(out, &change.key)?;
-    put_new_row(out, &change.row)
+    put_key(out, key)?;
+    put_new_row(out, row)
 }
 
-fn put_changes(out: &mut Vec<u8>, changes: &[Change]) -> Result<(), AllocError>
-    requires { All IsWritable changes.now }
-    ensures items { OnOk result (out.new.items ≡ out.old.items ++ flat_map change_bytes changes.now) }
-    ensures capacity { vec_capacity out.old ≤ vec_capacity out.new }
-    ensures full { OnErr result (vec_capacity out.old < vec_len out.old + length (flat_map change_bytes changes.now)) }
-{
-    for change in changes {
-        put_change(out, change)?;
-    }
-    Ok(())
-}
-
-fn group_byte(group: Group) -> u8
+pub(crate) fn group_byte(group: Group) -> u8
     ensures { result ≡ group_byte group }
 {
     match group {
@@ -152,17 +140,4 @@ fn group_byte(group: Group) -> u8
         Group::Main => 1,
         Group::Post => 2,
     }
-}
-
-/// Adds a part's bytes. It fails only where the capacity had no room for them.
-pub fn put_part(out: &mut Vec<u8>, part: &Part) -> Result<(), AllocError>
-    requires { IsWritablePart part.now }
-    ensures items { OnOk result (out.new.items ≡ out.old.items ++ part_bytes part.now) }
-    ensures capacity { vec_capacity out.old ≤ vec_capacity out.new }
-    ensures full { OnErr result (vec_capacity out.old < vec_len out.old + length (part_bytes part.now)) }
-{
-    put_u64(out, part.tx)?;
-    put_u8(out, group_byte(part.group))?;
-    put_u32(out, part.changes.len() as u32)?;
-    put_changes(out, part.changes.as_slice())
 }
