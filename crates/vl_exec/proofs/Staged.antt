@@ -22,7 +22,6 @@ use Rattle.vl_port.specs.declared.fate.Fate.TheVariants as fates
 use Rattle.vl_port.specs.declared.opened.Opened.{Opened}
 use Rattle.vl_port.specs.declared.tx_state.TxState.{TxState}
 use Rattle.vl_port.specs.declared.who.Who.{Who}
-use Rattle.vl_port.specs.Asking.{IsSameTx}
 use Rattle.vl_port.specs.Calls.{HasClosed, HasCommitted, PortView}
 use Rattle.vl_port.specs.Carrying.{Closes, CommitCarries, CommitUses, Commits}
 use Rattle.vl_port.specs.Life.{downed_in, loss_of, lost_as, marked}
@@ -355,15 +354,6 @@ client_stepped catalog count old new client tx told program left is same serves 
   number = subst (λ (n : ℕ). n ≤ last_tx) (sym same.number) is.number;
   sessions = subst (λ (n : ℕ). IsIn tx n new) serves.shards sessions;
   made = left_made catalog (shard_count catalog.rings) tx.limits.tries told program left (λ well. subst (λ (n : ℕ). IsMade catalog n tx.limits.tries program) serves.shards (made well)) over;
-}
-
--- ---- an act of a client's own
-
-pub client_asked : (catalog : Catalog) (count : ℕ) (old new : Shards) (client : Client) (tx : TxState) → IsClient catalog old client → IsSameTx client.0 tx → Serves catalog count new → IsIn tx count new → IsClient catalog new (tx, client.1)
-client_asked catalog count old new client tx is same serves sessions = record {
-  number = subst (λ (n : ℕ). n ≤ last_tx) (sym same.number) is.number;
-  sessions = subst (λ (n : ℕ). IsIn tx n new) serves.shards sessions;
-  made = subst (λ (l : Limits). IfSome client.1 (λ program. IsMade catalog (shard_count catalog.rings) l.tries program)) (sym same.limits) is.made;
 }
 
 -- ---- a session that is killed

@@ -1,6 +1,5 @@
 -- What each statement ensures in its own words, for all of them.
 use Rattle.std.proofs.Common.{◌≡◌, ◌⊎◌, inl, inr, Bool, false, refl, sym, subst}
-use Rattle.vl_values.specs.declared.reply.Reply.TheVariants as replies
 use Rattle.vl_port.specs.declared.tx_state.TxState.{TxState}
 use Rattle.vl_port.specs.Asking.{IsSameTx}
 use Rattle.vl_lookup.specs.Stepping.{IsSameTxButClaims}

@@ -1,6 +1,5 @@
 -- A step of a program: one action of one of the transaction's sessions on one shard, or none, as the statement's
 -- own crate says it.
-use Rattle.std.specs.Prelude.{ℕ}
 use Rattle.vl_catalog.specs.declared.catalog.Catalog.{Catalog}
 use Rattle.vl_port.specs.declared.tx_state.TxState.{TxState}
 use Rattle.vl_port.specs.Calls.{PortView}

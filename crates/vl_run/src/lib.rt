@@ -4,7 +4,7 @@
 //! holds, which statement is in progress and how far it has come: each is a function of the events up to there.
 //! `specs/Machine` is the one table that clients believe to speak to, with its steps; an event tells what was
 //! done, and its steps are a function of that. `specs/Session` says what a client session's statements do to its
-//! transaction, and `specs/Allowed` which replies an event may have. Nothing here says how the core does it.
+//! transaction, and `specs/Allowed` which replies an event may have. Nothing here says how the core does it. [`Trace`](trace::Trace) keeps the events of a cluster.
 #![tactic(auto)]
 
 pub mod ask;
@@ -15,5 +15,7 @@ pub mod fault;
 pub mod mark;
 pub mod request;
 pub mod tag;
+#[cfg(test)]
+mod tests;
 pub mod trace;
 pub mod what;

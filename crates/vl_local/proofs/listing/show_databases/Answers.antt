@@ -1,0 +1,8 @@
+use Rattle.std.proofs.Common.{◌≡◌, [], ◌∷◌, ◌∙◌, ap, map, codes}
+use Rattle.vl_run.specs.Local.IsLocal.{Tables, Databases, Warnings, Version, Database}
+use Rattle.vl_run.specs.Local.{text_column, text_rows}
+use Rattle.vl_local.proofs.Both.{both_ok}
+use Rattle.vl_local.proofs.listing.show_databases.Goals as goal
+
+pub returns : goal.returns
+returns c = both_ok c.of_texts.result _ _ _ (λ set columns rows chosen warnings. Databases set.columns.items set.rows.items columns (rows ∙ ap text_rows c.in_ok-keyspaces_of.ensures)) c.of_texts.ensures.columns c.of_texts.ensures.rows

@@ -1,0 +1,14 @@
+pub mod ActMoves
+pub mod Blanks
+pub mod Moves
+pub mod Places
+pub mod Shown
+pub mod Stepping
+pub mod Ends
+pub mod Frees
+pub mod Closed
+pub mod LostActs
+pub mod Kept
+pub mod Standing
+pub mod Alone
+pub mod Refusals
