@@ -1,5 +1,7 @@
--- What the reads of a statement gave.
-use Rattle.std.specs.Prelude.{◌≡◌, ◌==◌, if◌then◌else◌, ℕ, Bool, true, false, List, [], ◌∷◌, ◌++◌, Contains, Some}
+-- What the reads of a statement gave, and what its claims met.
+use Rattle.std.specs.Prelude.{◌≡◌, ◌==◌, if◌then◌else◌, ℕ, Bool, true, false, List, [], ◌∷◌, ◌++◌, Contains, Option, Some}
+use Rattle.vl_values.specs.declared.group.Group.{Group}
+use Rattle.vl_values.specs.declared.group.Group.TheVariants.{Pre}
 use Rattle.vl_values.specs.declared.key.Key.{Key}
 use Rattle.vl_values.specs.declared.pred.Pred.{Pred}
 use Rattle.vl_values.specs.Keyed.{InKeyOrder}
@@ -12,6 +14,7 @@ use Rattle.vl_port.specs.View.{Values}
 use Rattle.vl_run.specs.declared.deed.Deed.{Deed}
 use Rattle.vl_run.specs.declared.deed.Deed.TheVariants as deeds
 use Rattle.vl_run.specs.declared.mark.Mark.{Mark}
+use Rattle.vl_run.specs.declared.mark.Mark.TheVariants as marks
 use Rattle.vl_run.specs.declared.request.Request.{Request}
 use Rattle.vl_run.specs.declared.request.Request.TheVariants as requests
 use Rattle.vl_run.specs.Machine.{Machine, is_entry, is_on, view}
@@ -82,3 +85,32 @@ Gathered catalog past n rows = Given catalog is_read past n rows
 -- the entries by which its route goes
 abbrev pub Looked : Catalog → Run → ℕ → Rows → Type 0
 Looked catalog past n rows = Given catalog is_look past n rows
+
+-- ---- what a claim met
+
+-- an Insert in pre that took its key and wrote nothing met what stood there. A write of the statement ends that
+abbrev pub MetAct : Machine → Who → Mark → Option Group → Act → (Key × Values → Type 0) → Key × Values → Type 0
+MetAct u who marks.Writes group act Before entry = ⊥
+MetAct u who marks.Takes (Some Pre) (Insert key row) Before entry = (entry.0 ≡ key) × (view u who key ≡ Some entry.1)
+MetAct u who mark group act Before entry = Before entry
+
+abbrev pub MetBy : Machine → Deed → (Key × Values → Type 0) → Key × Values → Type 0
+MetBy u deeds.Nothing Before entry = Before entry
+MetBy u (deeds.Acts who shard act mark) Before entry = MetAct u who mark who.group act Before entry
+MetBy u (deeds.Commits who shard) Before entry = Before entry
+MetBy u (deeds.Fails who shard) Before entry = Before entry
+
+abbrev pub MetSince : Request → (Key × Values → Type 0) → Key × Values → Type 0
+MetSince requests.Join Before entry = ⊥
+MetSince (requests.Say stmt) Before entry = ⊥
+MetSince requests.Reset Before entry = ⊥
+MetSince requests.Step Before entry = Before entry
+MetSince requests.Leave Before entry = ⊥
+MetSince (requests.Kill who shard) Before entry = Before entry
+
+-- the entry that the statement's claim in progress met, or the one before, which kept it: as it stood before the event in which its
+-- key was taken, whatever became of that session since
+abbrev pub Met : Catalog → Run → ℕ → Key × Values → Type 0
+Met catalog [] n entry = ⊥
+Met catalog (Began opening ∷ past) n entry = ⊥
+Met catalog (Happened e ∷ past) n entry = OwnOr (e.session == n) (MetBy (shown catalog past) e.deed (MetSince e.request (Met catalog past n)) entry) (Met catalog past n entry)

@@ -39,7 +39,7 @@ use Rattle.vl_plan.specs.declared.update_plan.UpdatePlan.{UpdatePlan}
 use Rattle.vl_run.specs.declared.deed.Deed.TheVariants as deeds
 use Rattle.vl_run.specs.declared.mark.Mark.{Mark}
 use Rattle.vl_run.specs.declared.mark.Mark.TheVariants as marks
-use Rattle.vl_run.specs.Gathered.{Gathered, Looked}
+use Rattle.vl_run.specs.Gathered.{Gathered, Looked, Met}
 use Rattle.vl_run.specs.Machine.{Machine, key_place, of_tx, view}
 use Rattle.vl_run.specs.Progress.{claimed_now, commits, last_deed, looked_on, read_on, wrote}
 use Rattle.vl_run.specs.Run.{Run, used}
@@ -174,10 +174,10 @@ pub record IsAt (catalog : Catalog) (now : Run) (n number : ℕ) (rows : List Va
 abbrev pub NeedsThere : Catalog → ℕ → Lookup → Values → Pair → Type 0
 NeedsThere catalog number lookup row entry = Needs catalog lookup (key_in catalog number row, row) entry
 
--- what the entry that stands names: a keyspace id, or none where it is NULL
-pub record Names (u : Machine) (who : Who) (lookup : Lookup) (key : Key) (named : Option (List ℕ)) : Type 0 where
+-- what the entry that the claim met names: a keyspace id, or none where it is NULL
+pub record Names (catalog : Catalog) (now : Run) (n : ℕ) (lookup : Lookup) (key : Key) (named : Option (List ℕ)) : Type 0 where
   pub found : Values
-  pub stands : view u who key ≡ Some found
+  pub met : Met catalog now n (key, found)
   pub to : ℕ
   pub has_to : lookup.to ≡ Some to
   pub names : named ≡ named_by to found
@@ -190,7 +190,7 @@ pub data IsClaimOver (catalog : Catalog) (u : Machine) (now : Run) (n tx number 
   -- the check gave no row, and the entry is kept: it names the row's own keyspace id
   Kept : (who : Who) (shard : ℕ) (pred : Pred) (lookup : Lookup) (row : Values) (key : Key) (ksid : List ℕ) → last_deed now n ≡ deeds.Acts who shard (Find pred true) marks.Takes
       → IsAt catalog now n number rows (length (claimed_now now n) - 1) lookup row → slice_get (claimed_now now n) (length (claimed_now now n) - 1) ≡ Some key
-      → Names u (of_tx n tx Pre) lookup key (Some ksid) → ksid_of catalog number row ≡ Some ksid → IsClaimOver catalog u now n tx number rows
+      → Names catalog now n lookup key (Some ksid) → ksid_of catalog number row ≡ Some ksid → IsClaimOver catalog u now n tx number rows
 
 -- the first action of the next claim: the entry's Insert
 pub record IsClaimDue (catalog : Catalog) (u : Machine) (now : Run) (n tx number : ℕ) (rows : List Values) (who : Who) (shard : ℕ) (act : Act) : Type 0 where
@@ -214,7 +214,7 @@ pub record IsCheckDue (catalog : Catalog) (u : Machine) (now : Run) (n tx number
   pub owner : Table
   pub at : IsAt catalog now n number rows (length (claimed_now now n) - 1) lookup row
   pub met : last_deed now n ≡ deeds.Acts (of_tx n tx Pre) (key_place catalog entry.0) (Insert entry.0 entry.1) marks.Takes
-  pub names : Names u (of_tx n tx Pre) lookup entry.0 (Some ksid)
+  pub names : Names catalog now n lookup entry.0 (Some ksid)
   pub is_owner : slice_get catalog.tables number ≡ Some owner
   pub by : who ≡ of_tx n tx Main
   pub placed : shard ≡ shard_in catalog.rings owner.keyspace ksid
@@ -226,10 +226,10 @@ pub record IsCheckDue (catalog : Catalog) (u : Machine) (now : Run) (n tx number
 -- its last action: the entry is redirected to the row's keyspace id, where what stands names none, or where the check gave no
 -- row and it names another
 pub data IsRedirected (catalog : Catalog) (u : Machine) (now : Run) (n tx number : ℕ) (lookup : Lookup) (row : Values) (entry : Pair) : Type 0 where
-  NamesNone : last_deed now n ≡ deeds.Acts (of_tx n tx Pre) (key_place catalog entry.0) (Insert entry.0 entry.1) marks.Takes → Names u (of_tx n tx Pre) lookup entry.0 None
+  NamesNone : last_deed now n ≡ deeds.Acts (of_tx n tx Pre) (key_place catalog entry.0) (Insert entry.0 entry.1) marks.Takes → Names catalog now n lookup entry.0 None
       → IsRedirected catalog u now n tx number lookup row entry
   NamesOther : (who : Who) (shard : ℕ) (pred : Pred) (ksid : List ℕ) → last_deed now n ≡ deeds.Acts who shard (Find pred true) marks.Takes
-      → slice_get (claimed_now now n) (length (claimed_now now n) - 1) ≡ Some entry.0 → Names u (of_tx n tx Pre) lookup entry.0 (Some ksid) → (ksid_of catalog number row ≡ Some ksid → ⊥)
+      → slice_get (claimed_now now n) (length (claimed_now now n) - 1) ≡ Some entry.0 → Names catalog now n lookup entry.0 (Some ksid) → (ksid_of catalog number row ≡ Some ksid → ⊥)
       → IsRedirected catalog u now n tx number lookup row entry
 
 pub record IsRedirectDue (catalog : Catalog) (u : Machine) (now : Run) (n tx number : ℕ) (rows : List Values) (who : Who) (shard : ℕ) (act : Act) : Type 0 where
