@@ -1,0 +1,5 @@
+pub mod Kept
+pub mod Leaving
+pub mod Nothing
+pub mod Standing
+pub mod Turns
