@@ -163,7 +163,7 @@ impl Change {
     }
 
     // Its act.
-    fn due_act(&self) -> Option<&Act>
+    fn due(&self) -> Option<&Act>
         ensures { option_copied result ≡ option_map (λ action. action.act) (due self.now) }
     {
         if self.search.read < self.search.shards.len() {
@@ -172,6 +172,16 @@ impl Change {
         match self.writes.as_slice().get(self.done) {
             Some(action) => Some(&action.act),
             None => None,
+        }
+    }
+
+    /// A copy of the act that is due; None where no action is left.
+    pub fn due_act(&self, alloc: Global) -> Result<Option<Act>, AllocError>
+        ensures { IfOk result (λ act. act ≡ option_map (λ action. action.act) (due self.now)) }
+    {
+        match self.due() {
+            Some(act) => Ok(Some(act.copy(alloc)?)),
+            None => Ok(None),
         }
     }
 
@@ -332,7 +342,7 @@ impl Change {
         let Some((group, shard)) = self.due_session() else {
             return self.reply(tx);
         };
-        let Some(act) = self.due_act() else {
+        let Some(act) = self.due() else {
             return self.reply(tx);
         };
         if tx.is_full(act) {

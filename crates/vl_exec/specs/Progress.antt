@@ -2,7 +2,8 @@
 use Rattle.std.specs.Prelude.{◌≡◌, ◌<◌, ◌≤◌, ℕ, ◌+◌, Bool, false, length, Option}
 use Rattle.std.specs.Option.{option_map}
 use Rattle.vl_values.specs.declared.group.Group.{Group}
-use Rattle.vl_insert.specs.Progress.{actions_left, session_due as insert_session}
+use Rattle.vl_port.specs.declared.act.Act.{Act}
+use Rattle.vl_insert.specs.Progress.{act_due as insert_act, actions_left, session_due as insert_session}
 use Rattle.vl_select.specs.Progress.{Action as Read, IsNearer as IsSelectNearer, acts_done as select_acts, due as read_due}
 use Rattle.vl_change.specs.declared.action.Action.{Action}
 use Rattle.vl_change.specs.Progress.{IsNearer as IsChangeNearer, acts_done as change_acts, due as change_due}
@@ -14,6 +15,12 @@ abbrev pub session_due : Program → Option (Group × ℕ)
 session_due (programs.Insert insert) = insert_session insert
 session_due (programs.Select select) = option_map (λ (read : Read). (read.group, read.shard)) (read_due select)
 session_due (programs.Change change) = option_map (λ (action : Action). (action.group, action.shard)) (change_due change)
+
+-- its act
+abbrev pub act_due : Program → Option Act
+act_due (programs.Insert insert) = insert_act insert
+act_due (programs.Select select) = option_map (λ (read : Read). read.act) (read_due select)
+act_due (programs.Change change) = option_map (λ (action : Action). action.act) (change_due change)
 
 -- whether a version was written
 abbrev pub wrote : Program → Bool

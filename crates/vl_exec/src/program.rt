@@ -13,7 +13,7 @@ ghost use Rattle.vl_select.specs.Answering.{GoesOn};
 ghost use Rattle.vl_exec.specs.Begun.{IsBegun, IsBounded, can_run};
 ghost use Rattle.vl_exec.specs.Effects.{AreOwed, HasWritten};
 ghost use Rattle.vl_exec.specs.Making.{IsMade};
-ghost use Rattle.vl_exec.specs.Progress.{IsCounted, IsFew, IsNearer, session_due, wrote};
+ghost use Rattle.vl_exec.specs.Progress.{IsCounted, IsFew, IsNearer, act_due, session_due, wrote};
 ghost use Rattle.vl_exec.specs.Stepping.{Stepped};
 
 use std::alloc::{AllocError, Global};
@@ -21,6 +21,7 @@ use vl_catalog::Catalog;
 use vl_change::change::Change;
 use vl_insert::insert::Insert;
 use vl_plan::plan::Plan;
+use vl_port::act::Act;
 use vl_port::port::ShardPort;
 use vl_port::tx_state::TxState;
 use vl_select::select::Select;
@@ -83,6 +84,17 @@ impl Program {
             Program::Insert(insert) => insert.due_session(),
             Program::Select(select) => select.due_session(),
             Program::Change(change) => change.due_session(),
+        }
+    }
+
+    /// A copy of the act that is due; None where no action is.
+    pub fn due_act(&self, alloc: Global) -> Result<Option<Act>, AllocError>
+        ensures { IfOk result (λ act. act ≡ act_due self.now) }
+    {
+        match self {
+            Program::Insert(insert) => insert.due_act(alloc),
+            Program::Select(select) => select.due_act(alloc),
+            Program::Change(change) => change.due_act(alloc),
         }
     }
 

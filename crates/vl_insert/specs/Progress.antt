@@ -4,6 +4,7 @@ use Rattle.std.specs.List.{sum_by}
 use Rattle.std.specs.Option.{option_map, option_map_or}
 use Rattle.vl_values.specs.declared.group.Group.{Group}
 use Rattle.vl_values.specs.declared.group.Group.TheVariants.{Main}
+use Rattle.vl_port.specs.declared.act.Act.{Act}
 use Rattle.vl_lookup.specs.Progress.{Progress as Claiming, acts_left, due as claim_due}
 use Rattle.vl_insert.specs.declared.task.Task.{Task}
 use Rattle.vl_insert.specs.declared.task.Task.TheVariants as tasks
@@ -25,6 +26,14 @@ session_for (tasks.Row insertion) = (Main, insertion.shard)
 -- those of the action that is due
 abbrev pub session_due : Progress → Option (Group × ℕ)
 session_due p = option_map session_for p.task
+
+-- its act
+abbrev pub act_for : Task → Act
+act_for (tasks.Claim claim) = (claim_due claim).act
+act_for (tasks.Row insertion) = insertion.act
+
+abbrev pub act_due : Progress → Option Act
+act_due p = option_map act_for p.task
 
 -- the claim in progress has come as far as this
 abbrev pub at_claim : Claiming → Progress → Progress

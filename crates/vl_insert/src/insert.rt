@@ -19,7 +19,7 @@ ghost use Rattle.vl_insert.specs.Begun.{IsBegun, beginning};
 ghost use Rattle.vl_statement.specs.Effects.{HasLocksOf, HasPendingOf, IsWell, LeavesOpen};
 ghost use Rattle.vl_insert.specs.Laying.{with_rows};
 ghost use Rattle.vl_insert.specs.Making.{IsMade};
-ghost use Rattle.vl_insert.specs.Progress.{Progress, actions_left, session_due, with_task};
+ghost use Rattle.vl_insert.specs.Progress.{Progress, act_due, actions_left, session_due, with_task};
 ghost use Rattle.vl_insert.specs.Stepping.{Stepped};
 ghost use Rattle.vl_statement.specs.Refusing.{IsRefusedFor, duplicate_entry, duplicate_row, limit_of_changes, removed_and_claimed};
 
@@ -32,6 +32,7 @@ use std::marker::Model;
 use vl_catalog::{Catalog, LookupNo};
 use vl_lookup::claim_told::ClaimTold;
 use vl_plan::insert_plan::InsertPlan;
+use vl_port::act::Act;
 use vl_port::answer::Answer;
 use vl_port::asked::Asked;
 use vl_port::asking::ask;
@@ -124,6 +125,17 @@ impl Insert {
             Some(Task::Claim(claim)) => Some(claim.session()),
             Some(Task::Row(insertion)) => Some((Group::Main, insertion.shard)),
             None => None,
+        }
+    }
+
+    /// A copy of the act that is due; None where no task is left.
+    pub fn due_act(&self, alloc: Global) -> Result<Option<Act>, AllocError>
+        ensures { IfOk result (λ act. act ≡ act_due self.now) }
+    {
+        match &self.task {
+            Some(Task::Claim(claim)) => Ok(Some(claim.due_act(alloc)?)),
+            Some(Task::Row(insertion)) => Ok(Some(insertion.act.copy(alloc)?)),
+            None => Ok(None),
         }
     }
 

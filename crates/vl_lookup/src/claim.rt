@@ -226,6 +226,20 @@ impl Claim {
         }
     }
 
+    /// A copy of the act that is due.
+    pub fn due_act(&self, alloc: Global) -> Result<Act, AllocError>
+        ensures { IfOk result (λ act. act ≡ (due self.now).act) }
+    {
+        match &self.stage {
+            Stage::First => self.insertion().copy(alloc),
+            Stage::Check { .. } => self.reading().copy(alloc),
+            Stage::Put => match self.put_act(alloc) {
+                Some(act) => Ok(act),
+                None => Err(AllocError),
+            },
+        }
+    }
+
     /// The number of the lookup.
     pub fn lookup(&self) -> LookupNo
         ensures { result ≡ self.now.lookup }

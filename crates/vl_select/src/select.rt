@@ -169,7 +169,7 @@ impl Select {
         }
     }
 
-    fn due_act(&self) -> Option<&Act>
+    fn due(&self) -> Option<&Act>
         ensures { option_copied result ≡ option_map (λ action. action.act) (due self.now) }
     {
         if let Some(entry) = self.entries.get(self.looked) {
@@ -178,6 +178,16 @@ impl Select {
         match self.shards.get(self.read) {
             Some(_) => Some(&self.find),
             None => None,
+        }
+    }
+
+    /// A copy of the read that is due; None where none is left.
+    pub fn due_act(&self, alloc: Global) -> Result<Option<Act>, AllocError>
+        ensures { IfOk result (λ act. act ≡ option_map (λ action. action.act) (due self.now)) }
+    {
+        match self.due() {
+            Some(act) => Ok(Some(act.copy(alloc)?)),
+            None => Ok(None),
         }
     }
 
@@ -432,7 +442,7 @@ impl Select {
         let Some((group, shard)) = self.due_session() else {
             return self.end(alloc, catalog, tx);
         };
-        let Some(act) = self.due_act() else {
+        let Some(act) = self.due() else {
             return self.end(alloc, catalog, tx);
         };
         if takes_keys(act) {
