@@ -1,13 +1,17 @@
 -- What the program of an UPDATE or a DELETE begins with, and which of them run.
-use Rattle.std.specs.Prelude.{ℕ, Bool, true, false, ◌==◌, ◌&&◌, List, [], length, slice_get}
+use Rattle.std.specs.Prelude.{ℕ, Bool, true, false, ◌==◌, ◌&&◌, List, [], length, slice_get, if◌then◌else◌, Option, Some, None}
 use Rattle.std.specs.Option.{option_map_or}
 use Rattle.vl_values.specs.declared.pred.Pred.{Pred}
+use Rattle.vl_values.specs.declared.unsupported.Unsupported.{Unsupported}
+use Rattle.vl_values.specs.declared.unsupported.Unsupported.TheVariants.{Lookups}
 use Rattle.vl_catalog.specs.declared.catalog.Catalog.{Catalog}
 use Rattle.vl_catalog.specs.declared.table.Table.{Table}
 use Rattle.vl_model.specs.declared.route.Route.{Route}
 use Rattle.vl_model.specs.declared.route.Route.TheVariants as routes
 use Rattle.vl_model.specs.Visiting.{visited}
 use Rattle.vl_plan.specs.declared.delete_plan.DeletePlan.{DeletePlan}
+use Rattle.vl_plan.specs.declared.plan.Plan.{Plan}
+use Rattle.vl_plan.specs.declared.plan.Plan.TheVariants as plans
 use Rattle.vl_plan.specs.declared.update_plan.UpdatePlan.{UpdatePlan}
 use Rattle.vl_port.specs.declared.act.Act.TheVariants.{Find}
 use Rattle.vl_change.specs.declared.row_change.RowChange.{RowChange}
@@ -42,3 +46,9 @@ is_direct routes.All = true
 -- the statements that run: those that change a table without lookups
 abbrev pub can_change : Catalog → Pred → Route → Bool
 can_change catalog pred route = has_no_lookup catalog pred.table && is_direct route
+
+-- why a plan has no program, where it is one that changes rows
+abbrev pub unsupported : Catalog → Plan → Option Unsupported
+unsupported catalog (plans.Update plan) = if can_change catalog plan.pred plan.route then None else Some Lookups
+unsupported catalog (plans.Delete plan) = if can_change catalog plan.pred plan.route then None else Some Lookups
+unsupported catalog _ = None

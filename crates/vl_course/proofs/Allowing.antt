@@ -1,6 +1,7 @@
 -- What a step may tell is what the run allows to be told.
-use Rattle.std.proofs.Common.{◌≡◌, ◌∙◌, ◌<◌, if◌then◌else◌, ℕ, Bool, true, false, not, List, [], ◌∷◌, ◌++◌, length, map, Option, Some, None, refl, sym, ap, subst, arith}
+use Rattle.std.proofs.Common.{◌≡◌, ◌∙◌, ◌==◌, ◌||◌, ◌<◌, if◌then◌else◌, ℕ, Bool, true, false, not, List, [], ◌∷◌, ◌++◌, length, map, Option, Some, None, refl, sym, ap, subst, arith}
 use Rattle.std.specs.Option.{is_some}
+use Rattle.std.proofs.Math.Bool.{or-false}
 use Rattle.vl_values.specs.declared.cause.Cause.{Cause}
 use Rattle.vl_values.specs.declared.group.Group.{Group}
 use Rattle.vl_values.specs.declared.group.Group.TheVariants.{Pre, Main, Post}
@@ -22,7 +23,7 @@ use Rattle.vl_run.specs.declared.tag.Tag.TheVariants as tags
 use Rattle.vl_run.specs.declared.what.What.TheVariants as whats
 use Rattle.vl_run.specs.Allowed.{Allows, HasCommitted, IsOver, gives_rows, now_of}
 use Rattle.vl_run.specs.Named.{HasWorked, of_group, sessions}
-use Rattle.vl_run.specs.Progress.{commits, has_written, session, warned}
+use Rattle.vl_run.specs.Progress.{commits, has_begun_to_commit, has_written, session, warned}
 use Rattle.vl_run.specs.Run.{Run, used}
 use Rattle.vl_run.specs.Run.Point.{Happened}
 use Rattle.vl_run.specs.Session.{IsTold, Kind, Owned, Session, answered, auto_done, done_by, is_committing, is_kept, kind_of, owned_done, owned_refused}
@@ -44,11 +45,13 @@ module _ (catalog : Catalog) (limits : Limits) (past : Run) (e : Event) (stmt : 
   pub allows_held : (by : ℕ) (key : Key) (times : ℕ) → Turned catalog limits past e stmt plan own (told.Held by key times) → Allows catalog limits past e e.session stmt (session (now_of e past) e.session) (whats.Held by key times)
   allows_held by key times turned = turned.told
 
-  pub allows_refusal : (code : ℕ) (why : Cause) (tx : Bool) → Turned catalog limits past e stmt plan own (told.Reply (replies.Err code why tx)) → Allows catalog limits past e e.session stmt (session (now_of e past) e.session) (whats.Reply (replies.Err code why tx))
-  allows_refusal code why tx turned = record {
+  pub allows_refusal : (code : ℕ) (why : Cause) (tx : Bool) → commits (Happened e ∷ past) e.session ≡ 0 → Turned catalog limits past e stmt plan own (told.Reply (replies.Err code why tx)) → Allows catalog limits past e e.session stmt (session (now_of e past) e.session) (whats.Reply (replies.Err code why tx))
+  allows_refusal code why tx uncommitted turned = record {
     coded = turned.told.0;
     caused = turned.told.1;
-    kept = turned.told.2 ∙ sym (ap (λ (o : Option Owned). is_kept (has_written (Happened e ∷ past) e.session) (is_some e.fault) o) owned);
+    kept = turned.told.2
+        ∙ ap (λ b. is_kept (has_written (Happened e ∷ past) e.session) b (Some own)) (sym (or-false (is_some e.fault)) ∙ ap (λ k. is_some e.fault || not (k == 0)) (sym uncommitted))
+        ∙ sym (ap (λ (o : Option Owned). is_kept (has_written (Happened e ∷ past) e.session) (is_some e.fault || has_begun_to_commit (Happened e ∷ past) e.session) o) owned);
   }
 
   -- ---- the end, where no commit is left

@@ -1,5 +1,5 @@
 -- A step of a commit is an event that the run may have.
-use Rattle.std.proofs.Common.{◌≡◌, ◌∙◌, ◌&&◌, ◌+◌, ◌-◌, ◌≤◌, ◌<◌, ◌++◌, not, ℕ, Bool, true, false, List, [], ◌∷◌, length, map, Option, Some, None, refl, sym, ap, subst, arith}
+use Rattle.std.proofs.Common.{◌≡◌, ◌∙◌, ◌&&◌, ◌||◌, ◌+◌, ◌-◌, ◌≤◌, ◌<◌, ◌++◌, not, ℕ, Bool, true, false, List, [], ◌∷◌, length, map, Option, Some, None, refl, sym, ap, subst, arith}
 use Rattle.std.specs.Prelude.{slice_get}
 use Rattle.std.specs.Option.{is_some, option_map}
 use Rattle.std.proofs.Math.Bool.{and-false}
@@ -49,7 +49,7 @@ use Rattle.vl_run.specs.Allowed.IsVisit.{ByCommit, ByFailure, Nowhere}
 use Rattle.vl_run.specs.Gathered.{shown}
 use Rattle.vl_run.specs.Machine.{of_tx}
 use Rattle.vl_run.specs.Named.{HasWorked, IsCommitDue, of_group, sessions as run_sessions}
-use Rattle.vl_run.specs.Progress.{commits, has_written, post_warnings, session, warned, warnings_by, with_commit}
+use Rattle.vl_run.specs.Progress.{commits, has_begun_to_commit, has_written, post_warnings, session, warned, warnings_by, with_commit}
 use Rattle.vl_run.specs.Refused.{IsWithin, MayBeLost, MayDo, Refuses, done_before}
 use Rattle.vl_run.specs.Refused.Refuses.{CommitFailed, CommitLost}
 use Rattle.vl_run.specs.Run.{Run, used, was_killed}
@@ -381,8 +381,9 @@ module _ (catalog : Catalog) (limits : Limits) (past : Run) (e : Event) (stmt : 
     coded = refl;
     caused = refuses;
     kept = let written = has_written (Happened e ∷ past) e.session in
+        let begun = has_begun_to_commit (Happened e ∷ past) e.session in
         sym
-        (ap (λ (o : Option Owned). is_kept written (is_some e.fault) o) at.owned ∙ ap (λ (f : Option Fault). not own.single && (not written && not (is_some f))) met
+        (ap (λ (o : Option Owned). is_kept written (is_some e.fault || begun) o) at.owned ∙ ap (λ (f : Option Fault). not own.single && (not written && not (is_some f || begun))) met
         ∙ ap (λ b. not own.single && b) (and-false (not written)) ∙ and-false (not own.single));
   }
 

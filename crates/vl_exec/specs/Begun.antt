@@ -1,7 +1,5 @@
 -- What the program of a plan begins with, and which plans run.
-use Rattle.std.specs.Prelude.{◌≡◌, ◌≤◌, ◌*◌, Bool, true, false, length, if◌then◌else◌, Option, Some, None}
-use Rattle.vl_values.specs.declared.unsupported.Unsupported.{Unsupported}
-use Rattle.vl_values.specs.declared.unsupported.Unsupported.TheVariants.{Lookups}
+use Rattle.std.specs.Prelude.{◌≡◌, ◌≤◌, ◌*◌, Bool, true, false, length}
 use Rattle.vl_catalog.specs.declared.catalog.Catalog.{Catalog}
 use Rattle.vl_plan.specs.declared.plan.Plan.{Plan}
 use Rattle.vl_plan.specs.declared.plan.Plan.TheVariants as plans
@@ -31,9 +29,3 @@ can_run catalog (plans.Select plan) = true
 can_run catalog (plans.Update plan) = can_change catalog plan.pred plan.route
 can_run catalog (plans.Delete plan) = can_change catalog plan.pred plan.route
 can_run catalog _ = false
-
--- why a plan has no program, where it is one that changes rows
-abbrev pub unsupported : Catalog → Plan → Option Unsupported
-unsupported catalog (plans.Update plan) = if can_change catalog plan.pred plan.route then None else Some Lookups
-unsupported catalog (plans.Delete plan) = if can_change catalog plan.pred plan.route then None else Some Lookups
-unsupported catalog _ = None

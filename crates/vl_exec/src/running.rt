@@ -1,10 +1,9 @@
 ghost use Rattle.std.specs.Prelude.{◌≡◌};
-ghost use Rattle.vl_exec.specs.Begun.{can_run, unsupported};
+ghost use Rattle.vl_exec.specs.Begun.{can_run};
 
 use vl_catalog::Catalog;
 use vl_change::running::can_change;
 use vl_plan::plan::Plan;
-use vl_values::unsupported::Unsupported;
 
 /// Whether a program runs the plan: an INSERT or a SELECT, or an UPDATE or a DELETE of a table without lookups.
 pub fn can_run(catalog: &Catalog, plan: &Plan) -> bool
@@ -15,16 +14,5 @@ pub fn can_run(catalog: &Catalog, plan: &Plan) -> bool
         Plan::Update(plan) => can_change(catalog, &plan.pred, &plan.route),
         Plan::Delete(plan) => can_change(catalog, &plan.pred, &plan.route),
         _ => false,
-    }
-}
-
-/// Why a statement is refused that has a plan and no program: an UPDATE or a DELETE of a table with lookups. A
-/// plan is made where nothing else refuses its statement, so this comes after all other refusals.
-pub fn unsupported(catalog: &Catalog, plan: &Plan) -> Option<Unsupported>
-    ensures { result ≡ unsupported catalog.now plan.now }
-{
-    match plan {
-        Plan::Update(_) | Plan::Delete(_) if !can_run(catalog, plan) => Some(Unsupported::Lookups),
-        _ => None,
     }
 }

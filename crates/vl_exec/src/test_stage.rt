@@ -12,11 +12,12 @@ ghost use Rattle.vl_exec.specs.Making.{IsMade};
 ghost use Rattle.vl_exec.specs.Staging.{IsClient};
 
 use crate::program::Program;
-use crate::running::{can_run, unsupported};
+use crate::running::can_run;
 use std::alloc::{AllocError, Global};
 use std::marker::Model;
 use std::test::Fail;
 use vl_catalog::{Catalog, Table};
+use vl_change::running::unsupported;
 use vl_plan::planning::plan;
 use vl_port::act::Act;
 use vl_port::answer::Answer;

@@ -1,5 +1,5 @@
 -- Which events a run may have: what each was asked, did and told.
-use Rattle.std.specs.Prelude.{◌≡◌, ◌<◌, ◌≤◌, ◌+◌, ◌==◌, slice_get, ℕ, Bool, true, false, List, [], ◌∷◌, length, Option, Some, None}
+use Rattle.std.specs.Prelude.{◌≡◌, ◌<◌, ◌≤◌, ◌+◌, ◌==◌, ◌||◌, slice_get, ℕ, Bool, true, false, List, [], ◌∷◌, length, Option, Some, None}
 use Rattle.std.specs.Option.{is_some}
 use Rattle.vl_values.specs.declared.cause.Cause.{Cause}
 use Rattle.vl_values.specs.declared.group.Group.{Group}
@@ -45,7 +45,7 @@ use Rattle.vl_run.specs.Local.{IsLocal}
 use Rattle.vl_run.specs.Machine.{CanStepAll, Machine, of_tx}
 use Rattle.vl_run.specs.Named.{ComesTo, HasWorked, IsCommitDue, IsMarked, IsNext, Purpose, sessions}
 use Rattle.vl_run.specs.Numbers.{IsNextFree, last_event, most_sessions}
-use Rattle.vl_run.specs.Progress.{commits, has_written, session, tries, warned, wrote}
+use Rattle.vl_run.specs.Progress.{commits, has_begun_to_commit, has_written, session, tries, warned, wrote}
 use Rattle.vl_run.specs.Refused.{IsHeld, IsWithin, MayDo, Refuses}
 use Rattle.vl_run.specs.Run.{Run, at, cells, is_broken, joined, named, next_tx, nowhere, seat, state, was_killed}
 use Rattle.vl_run.specs.Run.Point.{Began, Happened}
@@ -228,12 +228,12 @@ pub record IsRows (catalog : Catalog) (limits : Limits) (after : Run) (n : ℕ) 
   pub within : IsWithin catalog limits after n stmt
   pub proceeds : Proceeds e
 
--- it was refused. The transaction stays open where the refusal came before its first write, and no session was lost, no device
--- failed, and it isn't of this statement alone
+-- it was refused. The transaction stays open where the refusal came before its first write and before its commit, and no session
+-- was lost, no device failed, and it isn't of this statement alone
 pub record IsErr (catalog : Catalog) (limits : Limits) (past : Run) (e : Event) (n : ℕ) (stmt : Stmt) (s : Session) (code : ℕ) (why : Cause) (tx : Bool) : Type 0 where
   pub coded : code ≡ error_code why
   pub caused : Refuses catalog limits (shown catalog past) past (now_of e past) (Happened e ∷ past) e n stmt s why
-  pub kept : tx ≡ is_kept (has_written (Happened e ∷ past) n) (is_some e.fault) s.owned
+  pub kept : tx ≡ is_kept (has_written (Happened e ∷ past) n) (is_some e.fault || has_begun_to_commit (Happened e ∷ past) n) s.owned
 
 -- a statement's answers; `s` is the session while the statement is in progress
 abbrev pub Allows : Catalog → Limits → Run → Event → ℕ → Stmt → Session → What → Type 0

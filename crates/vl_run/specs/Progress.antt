@@ -1,6 +1,6 @@
 -- How far the statement in progress of a client session has come: words of the run, each said of the session's own events
 -- since it said the statement.
-use Rattle.std.specs.Prelude.{◌==◌, ◌+◌, ◌||◌, if◌then◌else◌, ℕ, Bool, true, false, List, [], ◌∷◌, ◌++◌, Option, Some, None}
+use Rattle.std.specs.Prelude.{◌==◌, ◌+◌, ◌||◌, not, if◌then◌else◌, ℕ, Bool, true, false, List, [], ◌∷◌, ◌++◌, Option, Some, None}
 use Rattle.vl_values.specs.declared.group.Group.{Group}
 use Rattle.vl_values.specs.declared.group.Group.TheVariants.{Pre, Main, Post}
 use Rattle.vl_values.specs.declared.key.Key.{Key}
@@ -170,6 +170,10 @@ with_commit (deeds.Fails who shard) before = before + 1
 -- how many of its transaction's shard sessions it has dealt with by a commit, done or not
 abbrev pub commits : Run → ℕ → ℕ
 commits past n = summed 0 with_commit past n
+
+-- whether its commit has begun: one of them was dealt with
+abbrev pub has_begun_to_commit : Run → ℕ → Bool
+has_begun_to_commit past n = not (commits past n == 0)
 
 abbrev pub acts_by : Mark → ℕ → ℕ
 acts_by marks.Opens before = before

@@ -11,6 +11,7 @@ use Rattle.vl_values.specs.declared.limit.Limit.TheVariants as quantities
 use Rattle.vl_values.specs.declared.lost_why.LostWhy.{LostWhy}
 use Rattle.vl_values.specs.declared.lost_why.LostWhy.TheVariants as why
 use Rattle.vl_values.specs.declared.pred.Pred.{Pred}
+use Rattle.vl_values.specs.declared.unsupported.Unsupported.{Unsupported}
 use Rattle.vl_values.specs.Keyed.{comes_before, is_among_keys}
 use Rattle.vl_sql.specs.declared.stmt.Stmt.{Stmt}
 use Rattle.vl_sql.specs.declared.stmt.Stmt.TheVariants as stmts
@@ -24,8 +25,10 @@ use Rattle.vl_port.specs.Transaction.{last_tx}
 use Rattle.vl_port.specs.View.{Values}
 use Rattle.vl_model.specs.Refusals.{is_count, refusals}
 use Rattle.vl_model.specs.Tables.{Pair}
+use Rattle.vl_plan.specs.declared.plan.Plan.{Plan}
 use Rattle.vl_plan.specs.declared.plan.Plan.TheVariants as plans
 use Rattle.vl_plan.specs.Planned.{IsPlanned}
+use Rattle.vl_change.specs.Begun.{unsupported}
 use Rattle.vl_statement.specs.Refusing.{device_failed, duplicate_entry, duplicate_row, lock_wait, read_lost, removed_and_claimed, session_lost}
 use Rattle.vl_statement.specs.declared.tally.Tally.{Tally}
 use Rattle.vl_statement.specs.Tallies.{first_over}
@@ -37,7 +40,7 @@ use Rattle.vl_run.specs.declared.mark.Mark.TheVariants as marks
 use Rattle.vl_run.specs.declared.request.Request.TheVariants as requests
 use Rattle.vl_run.specs.Gathered.{Gathered, Reads}
 use Rattle.vl_run.specs.Machine.{Machine, is_on, of_tx, takes, view}
-use Rattle.vl_run.specs.Named.{IsCheckDue, IsClaimDue, IsCommitDue, IsNext, Purpose}
+use Rattle.vl_run.specs.Named.{IsCheckDue, IsClaimDue, IsCommitDue, IsNext, Purpose, sessions}
 use Rattle.vl_run.specs.Progress.{changes, commits, removed, tries}
 use Rattle.vl_run.specs.Run.{Run, next_tx, used, was_killed}
 use Rattle.vl_run.specs.Session.{Owned, Session, kind_of, opens_first}
@@ -128,6 +131,12 @@ pub data Refuses (catalog : Catalog) (limits : Limits) (u : Machine) (past now a
   -- the transaction that it would open has no number
   NoNumber : slice_get (refusals catalog stmt) 0 ≡ None → e.deed ≡ deeds.Nothing → next_tx past ≡ last_tx + 1 → (opens_first (kind_of stmt) s.owned ≡ true) → Refuses catalog limits u past now after e n stmt s (causes.Limit quantities.Transactions last_tx)
   NoNumberToBegin : kind_of stmt ≡ Begins → e.request ≡ requests.Say stmt → e.deed ≡ deeds.Nothing → next_tx past ≡ last_tx + 1 → Refuses catalog limits u past now after e n stmt s (causes.Limit quantities.Transactions last_tx)
+  -- another session has taken the last number while a BEGIN committed
+  NumberTaken : (own : Owned) → kind_of stmt ≡ Begins → s.owned ≡ Some own → commits after n ≡ length (sessions after own.number) → next_tx past ≡ last_tx + 1
+      → Refuses catalog limits u past now after e n stmt s (causes.Limit quantities.Transactions last_tx)
+  -- no program runs it yet
+  NotRun : (plan : Plan) (what : Unsupported) → e.request ≡ requests.Say stmt → e.deed ≡ deeds.Nothing → e.fault ≡ None → slice_get (refusals catalog stmt) 0 ≡ None → IsPlanned catalog stmt plan → unsupported catalog plan ≡ Some what
+      → Refuses catalog limits u past now after e n stmt s (causes.NotSupported what)
   -- the row would be one change more than the transaction may make. No shard was asked
   Full : (purpose : Purpose) (who : Who) (shard : ℕ) (act : Act) → IsNext catalog u now n stmt s.owned purpose who shard act → is_write act ≡ true → e.deed ≡ deeds.Nothing → e.fault ≡ None
       → nat_lt (changes now who.tx) limits.changes ≡ false → Refuses catalog limits u past now after e n stmt s (causes.Limit quantities.Changes limits.changes)
