@@ -191,6 +191,13 @@ impl Select {
         }
     }
 
+    /// Whether entries of the route are still to be read. The read that is due is then one of them.
+    pub fn looks(&self) -> bool
+        ensures { result ≡ nat_lt self.now.looked (length self.now.entries) }
+    {
+        self.looked < self.entries.len()
+    }
+
     // The result set of the rows that were read. They are taken out.
     fn result_set(
         &mut self,
