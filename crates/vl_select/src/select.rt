@@ -169,7 +169,8 @@ impl Select {
         }
     }
 
-    fn due(&self) -> Option<&Act>
+    /// The read that is due; None where none is left.
+    pub fn due(&self) -> Option<&Act>
         ensures { option_copied result ≡ option_map (λ action. action.act) (due self.now) }
     {
         if let Some(entry) = self.entries.get(self.looked) {
