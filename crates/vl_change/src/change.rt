@@ -185,6 +185,13 @@ impl Change {
         }
     }
 
+    /// Whether a version was written.
+    pub fn wrote(&self) -> bool
+        ensures { result ≡ self.now.wrote }
+    {
+        self.wrote
+    }
+
     // How many rows were found.
     fn found(&self) -> u64
         ensures { result ≡ found self.now }

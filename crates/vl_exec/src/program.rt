@@ -98,6 +98,17 @@ impl Program {
         }
     }
 
+    /// Whether a version was written.
+    pub fn wrote(&self) -> bool
+        ensures { result ≡ wrote self.now }
+    {
+        match self {
+            Program::Insert(insert) => insert.wrote(),
+            Program::Select(_) => false,
+            Program::Change(change) => change.wrote(),
+        }
+    }
+
     /// Does the action that is due, on one shard, and tells what the statement's state is then.
     ///
     /// After a reply the program is over. A refusal before the first write leaves the transaction with

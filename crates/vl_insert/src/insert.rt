@@ -139,6 +139,13 @@ impl Insert {
         }
     }
 
+    /// Whether a version was written.
+    pub fn wrote(&self) -> bool
+        ensures { result ≡ self.now.wrote }
+    {
+        self.wrote
+    }
+
     fn reply(&self, tx: &TxState) -> ProgramTold
         ensures { result ≡ reply_of tx.now self.now }
     {
