@@ -63,6 +63,20 @@ impl Commit {
         }
     }
 
+    /// The transaction.
+    pub fn tx(&self) -> &TxState
+        ensures { result.now ≡ self.now.tx }
+    {
+        &self.tx
+    }
+
+    /// The commits of post that failed so far, in their order.
+    pub fn warnings(&self) -> &[Warning]
+        ensures { result.now ≡ self.now.warnings }
+    {
+        self.warnings.as_slice()
+    }
+
     /// The group and the shard of the session that is due.
     pub fn due(&self) -> Option<(Group, ShardNo)>
         ensures { result ≡ due self.now }
