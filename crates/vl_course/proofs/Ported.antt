@@ -108,23 +108,23 @@ module _ (catalog : Catalog) (past : Run) (old new : PortView) (who : Who) (shar
   how = came new.way (old.shards shard) who act answer (new.shards shard) acted.acted
 
   spared_by : (killed : Bool) → was_killed past who shard ≡ killed → is_told (outcome_of answer) ≡ true → was_killed past who shard ≡ false
-  spared_by true is told = absurd (told_alive (old.shards shard) who act answer why.Dropped (marks.killed who shard refl is) how told)
+  spared_by true is told = absurd (told_alive (old.shards shard) who act answer why.Dropped ((marks who shard refl).killed is) how told)
   spared_by false is told = is
 
   no_both : (a b : LostWhy) → loss_of (old.shards shard) who ≡ Some a → loss_of (old.shards shard) who ≡ Some b → Some a ≡ Some b
   no_both a b one other = sym one ∙ other
 
   not_killed : (had current : ℕ) (killed : Bool) → was_killed past who shard ≡ killed → loss_of (old.shards shard) who ≡ Some (why.Restarted had current) → was_killed past who shard ≡ false
-  not_killed had current true is lost = absurd (apart (no_both why.Dropped (why.Restarted had current) (marks.killed who shard refl is) lost))
+  not_killed had current true is lost = absurd (apart (no_both why.Dropped (why.Restarted had current) ((marks who shard refl).killed is) lost))
     where
       apart : Some why.Dropped ≡ Some (why.Restarted had current) → ⊥
       apart same = cc
   not_killed had current false is lost = is
 
   lost_by : (reason : LostWhy) → loss_of (old.shards shard) who ≡ Some reason → MayBeLost past who shard reason
-  lost_by why.Dropped lost = marks.dropped who shard refl lost
+  lost_by why.Dropped lost = (marks who shard refl).dropped lost
   lost_by why.Link lost = tt
-  lost_by (why.Restarted had current) lost = (not_killed had current (was_killed past who shard) refl lost, marks.young who shard had current refl lost)
+  lost_by (why.Restarted had current) lost = (not_killed had current (was_killed past who shard) refl lost, (marks who shard refl).young had current lost)
 
   lost_cause : (reason : LostWhy) → (reason ≡ why.Link) ⊎ (loss_of (old.shards shard) who ≡ Some reason) → MayBeLost past who shard reason
   lost_cause reason (inl link) = subst (MayBeLost past who shard) (sym link) tt
@@ -132,7 +132,7 @@ module _ (catalog : Catalog) (past : Run) (old new : PortView) (who : Who) (shar
 
   read_cause : (reason : LostWhy) → who.group ≡ None → (reason ≡ why.Link) ⊎ (loss_of (old.shards shard) who ≡ Some reason) → reason ≡ why.Link
   read_cause reason plain (inl link) = link
-  read_cause reason plain (inr lost) = absurd (apart (sym lost ∙ marks.plain who shard refl plain))
+  read_cause reason plain (inr lost) = absurd (apart (sym lost ∙ (marks who shard refl).plain plain))
     where
       apart : Some reason ≡ None → ⊥
       apart same = cc

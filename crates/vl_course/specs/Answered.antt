@@ -1,5 +1,5 @@
 -- What the port's answer to an act says of the run.
-use Rattle.std.specs.Prelude.{◌≡◌, nat_lt, ℕ, Bool, true, false, Some, None}
+use Rattle.std.specs.Prelude.{◌≡◌, nat_lt, ℕ, Bool, true, false, Option, Some, None}
 use Rattle.vl_values.specs.declared.key.Key.{Key}
 use Rattle.vl_values.specs.declared.limit.Limit.{Limit as Quantity}
 use Rattle.vl_values.specs.declared.lost_why.LostWhy.{LostWhy}
@@ -45,13 +45,17 @@ pub record IsAnswered (catalog : Catalog) (past : Run) (who : Who) (shard : ℕ)
 
 -- ---- marks
 
--- of the sessions of a transaction those that a kill named are dropped, and no others. None is of an incarnation that is
--- still to come, and a read without a group has none
-pub record AreMarked (past : Run) (tx : ℕ) (seen : Shards) : Type 0 where
-  pub killed : (who : Who) (shard : ℕ) → who.tx ≡ tx → was_killed past who shard ≡ true → loss_of (seen shard) who ≡ Some why.Dropped
-  pub dropped : (who : Who) (shard : ℕ) → who.tx ≡ tx → loss_of (seen shard) who ≡ Some why.Dropped → was_killed past who shard ≡ true
-  pub young : (who : Who) (shard had current : ℕ) → who.tx ≡ tx → loss_of (seen shard) who ≡ Some (why.Restarted had current) → nat_lt had current ≡ true
-  pub plain : (who : Who) (shard : ℕ) → who.tx ≡ tx → who.group ≡ None → loss_of (seen shard) who ≡ None
+-- the session is dropped where a kill named it, and only there. None is of an incarnation that is still to come, and a read
+-- without a group has none to lose
+pub record IsMarkedAs (past : Run) (who : Who) (shard : ℕ) (loss : Option LostWhy) : Type 0 where
+  pub killed : was_killed past who shard ≡ true → loss ≡ Some why.Dropped
+  pub dropped : loss ≡ Some why.Dropped → was_killed past who shard ≡ true
+  pub young : (had current : ℕ) → loss ≡ Some (why.Restarted had current) → nat_lt had current ≡ true
+  pub plain : who.group ≡ None → loss ≡ None
+
+-- all sessions of a transaction are
+abbrev pub AreMarked : Run → ℕ → Shards → Type 0
+AreMarked past tx seen = (who : Who) (shard : ℕ) → who.tx ≡ tx → IsMarkedAs past who shard (loss_of (seen shard) who)
 
 -- what the shards show of the keys of an act, as the run says it
 pub record IsShown (catalog : Catalog) (past : Run) (who : Who) (shard : ℕ) (act : Act) (answer : Answer) : Type 0 where

@@ -33,7 +33,7 @@ ghost use Rattle.vl_run.specs.Session.{IsTold, Owned, auto_done, is_committing, 
 ghost use Rattle.vl_run.specs.Session.Kind.{Begins, Works};
 ghost use Rattle.vl_replay.specs.Ending.{committed_deed, committed_ends, was_done};
 ghost use Rattle.vl_replay.specs.Showing.{IsWhole};
-ghost use Rattle.vl_course.specs.Answered.{AreMarked};
+ghost use Rattle.vl_course.specs.Answered.{IsMarkedAs};
 ghost use Rattle.vl_course.specs.Course.{Course, IsApart, IsTx};
 ghost use Rattle.vl_course.specs.Turning.{IsAtEnd, IsOfStmt, MayTell};
 ghost use Rattle.vl_course_commit.specs.Committing.{IsCommitAt, IsReplyOf};
@@ -70,7 +70,7 @@ pub fn stands_aside()
 
 /// What the port's outcome of a commit says of the run, and which session ends with it.
 pub fn is_dealt()
-    ensures outcome { (past : Run) (old new : PortView) (who : Who) (shard : ℕ) (outcome : Committed) → HasCommitted old who shard outcome new → AreMarked past who.tx old.shards → IsDealt past who shard (was_done new.way (loss_of (old.shards shard) who)) outcome }
+    ensures outcome { (past : Run) (old new : PortView) (who : Who) (shard : ℕ) (outcome : Committed) → HasCommitted old who shard outcome new → IsMarkedAs past who shard (loss_of (old.shards shard) who) → IsDealt past who shard (was_done new.way (loss_of (old.shards shard) who)) outcome }
     ensures ends { (done : Bool) (who : Who) (shard : ℕ) → failed_one (committed_deed done who shard) ≡ committed_ends done who shard }
 {}
 
