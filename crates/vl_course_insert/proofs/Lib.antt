@@ -1,0 +1,15 @@
+pub mod Advances
+pub mod Asked
+pub mod ClaimTurns
+pub mod Claims
+pub mod Dues
+pub mod Found
+pub mod Here
+pub mod Moves
+pub mod Refusals
+pub mod RowTurns
+pub mod Stays
+pub mod Taken
+pub mod Tasks
+pub mod Telling
+pub mod Turns
