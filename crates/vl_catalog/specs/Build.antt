@@ -77,7 +77,7 @@ defined_table k vschema def = record {
   in_schema = true;
   in_vschema = is_some (vschema_of vschema.tables def.name);
   columns = def.columns;
-  key = column_numbers def.columns def.key;
+  pk = column_numbers def.columns def.key;
   primary = primary_of vschema.vindexes def.columns (column_vindexes_of (vschema_of vschema.tables def.name));
   column_vindexes = column_vindexes_of (vschema_of vschema.tables def.name);
   lookups = [];
@@ -91,7 +91,7 @@ undefined_table k table = record {
   in_schema = false;
   in_vschema = true;
   columns = [];
-  key = [];
+  pk = [];
   primary = None;
   column_vindexes = table.column_vindexes;
   lookups = [];
@@ -229,8 +229,8 @@ other_keys key (Some n) = filter (λ m. not (m == n)) key
 abbrev pub is_key_rest : Option Table → List ℕ → Names → Bool
 is_key_rest None column rest = false
 is_key_rest (Some owner) column rest =
-    pointwise nat_eq (column_numbers owner.columns rest) (other_keys owner.key (column_number owner.columns column))
-    && (length rest == length (other_keys owner.key (column_number owner.columns column)))
+    pointwise nat_eq (column_numbers owner.columns rest) (other_keys owner.pk (column_number owner.columns column))
+    && (length rest == length (other_keys owner.pk (column_number owner.columns column)))
 
 -- a `consistent_lookup` may name behind its column the owner's primary key columns other than it, which
 -- means the same as its column alone

@@ -128,7 +128,7 @@ table def key vindex column_vindexes lookups = record {
   in_schema = true;
   in_vschema = true;
   columns = def.columns;
-  key = key;
+  pk = key;
   primary = Some (record { column = 0; vindex = vindex });
   column_vindexes = column_vindexes;
   lookups = lookups;

@@ -34,7 +34,7 @@ pub record FitsPred (catalog : Catalog) (pred : Pred) : Type 0 where
 
 -- the values of the primary key columns, in the key's order
 abbrev pub key_values : Table → List Value → List Value
-key_values table row = map (λ c. slice_index_or row c Null) table.key
+key_values table row = map (λ c. slice_index_or row c Null) table.pk
 
 -- the key of a row of the table of this number
 abbrev pub key_of : ℕ → Table → List Value → Key

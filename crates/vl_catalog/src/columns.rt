@@ -3,10 +3,11 @@ ghost use Rattle.vl_catalog.specs.Build.{column_number, column_numbers, one_colu
 
 use crate::column::Column;
 use std::alloc::{AllocError, Global};
+use vl_values::ColumnNo;
 use vl_values::bytes::Bytes;
 
 // The place of the column of this name.
-pub(crate) fn column_number(columns: &[Column], name: &[u8]) -> Option<usize>
+pub(crate) fn column_number(columns: &[Column], name: &[u8]) -> Option<ColumnNo>
     ensures { result ≡ column_number columns.now name.now }
 {
     columns
@@ -19,7 +20,7 @@ pub(crate) fn column_numbers(
     alloc: Global,
     columns: &[Column],
     names: &[Bytes],
-) -> Result<Vec<usize>, AllocError>
+) -> Result<Vec<ColumnNo>, AllocError>
     ensures { IfOk result (λ numbers. numbers.items ≡ column_numbers columns.now names.now) }
 {
     let mut numbers = Vec::with_capacity(alloc, names.len())?;
@@ -33,7 +34,7 @@ pub(crate) fn column_numbers(
 }
 
 // The place of the column, where there is one name alone.
-pub(crate) fn one_column(columns: &[Column], names: &[Bytes]) -> Option<usize>
+pub(crate) fn one_column(columns: &[Column], names: &[Bytes]) -> Option<ColumnNo>
     ensures { result ≡ one_column columns.now names.now }
 {
     match names {

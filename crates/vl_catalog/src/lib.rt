@@ -53,12 +53,7 @@ pub use crate::table_def::TableDef;
 pub use crate::table_vschema::TableVschema;
 pub use crate::vindex::Vindex;
 pub use crate::vindex_def::{VindexDef, VindexKind};
-
-/// A table's number in its catalog, counted from 0.
-pub type TableNo = u32;
+pub use vl_values::{ColumnNo, ShardNo, TableNo};
 
 /// A lookup's number in its catalog, counted from 0.
 pub type LookupNo = u32;
-
-/// A shard's number in its catalog, counted from 0.
-pub type ShardNo = u32;

@@ -1,9 +1,9 @@
-use crate::TableNo;
 use crate::copies::{name_of, numbers_of};
 use std::alloc::{AllocError, Global};
 use vl_values::bytes::Bytes;
 use vl_values::items::Items;
 use vl_values::try_copy::TryCopy;
+use vl_values::{ColumnNo, TableNo};
 
 /// A lookup of a catalog: its table maps the values of the owner's column to keyspace ids. What its
 /// definition names and doesn't exist has no number.
@@ -14,7 +14,7 @@ pub struct Lookup {
     pub keyspace: usize,
     pub unique: bool,
     /// The one column by which the first table that lists it does, as a column of that table.
-    pub column: Option<usize>,
+    pub column: Option<ColumnNo>,
     pub ignore_nulls: bool,
     pub write_only: bool,
     pub owner: Option<TableNo>,
@@ -24,9 +24,9 @@ pub struct Lookup {
     pub table_keyspace: Option<Bytes>,
     pub table_name: Bytes,
     /// The table's columns for the values; none where one of them doesn't exist.
-    pub from: Items<usize>,
+    pub from: Items<ColumnNo>,
     /// The table's column for the keyspace id.
-    pub to: Option<usize>,
+    pub to: Option<ColumnNo>,
 }
 
 impl TryCopy for Lookup {

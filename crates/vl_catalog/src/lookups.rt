@@ -118,7 +118,7 @@ fn is_rest(alloc: Global, owner: &Table, column: &[u8], rest: &[Bytes]) -> Resul
 {
     let columns = owner.columns.as_slice();
     let numbers = column_numbers(alloc, columns, rest)?;
-    let others = other_keys(alloc, owner.key.as_slice(), column_number(columns, column))?;
+    let others = other_keys(alloc, owner.pk.as_slice(), column_number(columns, column))?;
     Ok(numbers.as_slice() == others.as_slice() && rest.len() == others.len())
 }
 

@@ -8,6 +8,7 @@ use crate::copies::numbers_of;
 use crate::primary::Primary;
 use crate::{LookupNo, TableNo};
 use std::alloc::{AllocError, Global};
+use vl_values::ColumnNo;
 use vl_values::bytes::Bytes;
 use vl_values::items::Items;
 use vl_values::key::Key;
@@ -28,7 +29,7 @@ pub struct Table {
     pub columns: Items<Column>,
     /// The primary key's columns, in its order; none where the table has no primary key, or where
     /// that names a column that doesn't exist.
-    pub key: Items<usize>,
+    pub pk: Items<ColumnNo>,
     pub primary: Option<Primary>,
     /// As the VSchema has them.
     pub column_vindexes: Items<ColumnVindex>,
@@ -44,7 +45,7 @@ impl TryCopy for Table {
             in_schema: self.in_schema,
             in_vschema: self.in_vschema,
             columns: self.columns.try_copy(alloc)?,
-            key: numbers_of(alloc, self.key.as_slice())?,
+            pk: numbers_of(alloc, self.pk.as_slice())?,
             primary: self.primary,
             column_vindexes: self.column_vindexes.try_copy(alloc)?,
             lookups: numbers_of(alloc, self.lookups.as_slice())?,
@@ -53,7 +54,7 @@ impl TryCopy for Table {
 }
 
 // The row's value in a column; NULL past its end.
-fn value_in(alloc: Global, row: &[Value], column: usize) -> Result<Value, AllocError>
+fn value_in(alloc: Global, row: &[Value], column: ColumnNo) -> Result<Value, AllocError>
     ensures { IfOk result (λ value. value ≡ slice_index_or row.now column Null) }
 {
     match row.get(column) {
@@ -65,7 +66,7 @@ fn value_in(alloc: Global, row: &[Value], column: usize) -> Result<Value, AllocE
 fn key_values(alloc: Global, table: &Table, row: &[Value]) -> Result<Vec<Value>, AllocError>
     ensures { IfOk result (λ values. values.items ≡ key_values table.now row.now) }
 {
-    let columns = table.key.as_slice();
+    let columns = table.pk.as_slice();
     let mut values = Vec::with_capacity(alloc, columns.len())?;
     for column in columns {
         values.push(value_in(alloc, row, *column)?)?;

@@ -73,7 +73,7 @@ off_primary catalog number table setting true kind kept is primary has same =
     let p = kept.sharded kind in
     let own : p.primary ≡ primary = same_Some p.primary primary (sym p.has ∙ has) in
     let at = p.in_key in
-    is.off_key (contains_at table.key at.0 setting.column (at.1 ∙ ap (λ (n : ℕ). Some n) (ap (λ (it : Primary). it.column) own ∙ same)))
+    is.off_key (contains_at table.pk at.0 setting.column (at.1 ∙ ap (λ (n : ℕ). Some n) (ap (λ (it : Primary). it.column) own ∙ same)))
 off_primary catalog number table setting false kind kept is primary has same = absurd (cc (has, (kept.unsharded kind).primary))
 
 -- ---- the whole
@@ -88,7 +88,7 @@ one_set catalog shard key row setting checked placed sets =
       table = table;
       is_table = placed.is_table;
       fits = row_set table row setting placed.fits is;
-      keyed = placed.keyed ∙ sym (others_keep row setting.column setting.value table.key is.off_key);
+      keyed = placed.keyed ∙ sym (others_keep row setting.column setting.value table.pk is.off_key);
       placed = ap (option_and_then (λ (it : Table). place_in catalog it (with_setting row setting))) placed.is_table
           ∙ placed_by catalog.rings table.keyspace table.primary row setting.column setting.value (off_primary catalog key.table table setting (is_sharded catalog table) refl kept is)
           ∙ sym (ap (option_and_then (λ (it : Table). place_in catalog it row)) placed.is_table) ∙ placed.placed;

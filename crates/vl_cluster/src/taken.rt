@@ -12,8 +12,12 @@ pub fn insert_of(stmt: &Stmt) -> Option<(u64, u64)>
     ensures { result ≡ taken.insert_of stmt.now }
 {
     match stmt {
-        Stmt::Insert(table, names, rows) => {
-            if is_t1(table) && are_id_u(names.as_slice()) {
+        Stmt::Insert {
+            table,
+            columns,
+            rows,
+        } => {
+            if is_t1(table) && are_id_u(columns.as_slice()) {
                 return numbers_of(rows.as_slice());
             }
             None

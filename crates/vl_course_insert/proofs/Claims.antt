@@ -57,7 +57,7 @@ module _ (catalog : Catalog) (checked : Checked catalog) where
       none_has : None ≡ Some primary → ⊥
       none_has same = cc
 
-      by_sharding : (sharded : Bool) → is_sharded catalog table ≡ sharded → (k : ℕ) × (slice_get table.key k ≡ Some primary.column)
+      by_sharding : (sharded : Bool) → is_sharded catalog table ≡ sharded → (k : ℕ) × (slice_get table.pk k ≡ Some primary.column)
       by_sharding true sharded =
           let it = (table_kept catalog number table checked is).sharded sharded in
           let same : it.primary ≡ primary = same_Some it.primary primary (sym it.has ∙ has) in

@@ -66,11 +66,11 @@ others_whole : (row : Values) (key : List ℕ) (unique : Bool) (column : ℕ) �
 others_whole row key true column whole = All-nil (IsSome_at row)
 others_whole row key false column whole = All-filter _ (IsSome_at row) key (key_whole row key whole)
 
-columns_whole : (row : Values) (lookup : Lookup) (owner : Table) (column : ℕ) → lookup.column ≡ Some column → IsSome_at row column → ((n : ℕ) → Contains owner.key n → IsSome_at row n)
+columns_whole : (row : Values) (lookup : Lookup) (owner : Table) (column : ℕ) → lookup.column ≡ Some column → IsSome_at row column → ((n : ℕ) → Contains owner.pk n → IsSome_at row n)
     → All (IsSome_at row) (from_columns lookup owner)
 columns_whole row lookup owner column has some whole =
-    subst (λ (o : Option ℕ). All (IsSome_at row) (first_column o ++ (if lookup.unique then [] else key_but o owner.key))) (sym has)
-    (All-append (IsSome_at row) (column ∷ []) (if lookup.unique then [] else key_but (Some column) owner.key) (All-cons (IsSome_at row) column [] some (All-nil (IsSome_at row))) (others_whole row owner.key lookup.unique column whole))
+    subst (λ (o : Option ℕ). All (IsSome_at row) (first_column o ++ (if lookup.unique then [] else key_but o owner.pk))) (sym has)
+    (All-append (IsSome_at row) (column ∷ []) (if lookup.unique then [] else key_but (Some column) owner.pk) (All-cons (IsSome_at row) column [] some (All-nil (IsSome_at row))) (others_whole row owner.pk lookup.unique column whole))
 
 -- what no column of a list has, none of its columns has
 absent : (p : ℕ → Bool) (xs : List ℕ) (n : ℕ) → list_any p xs ≡ false → Contains xs n → p n ≡ false
@@ -81,7 +81,7 @@ absent p xs n none among =
     ]
 
 -- the table that was looked up is the one of its number
-pub whole_key : (catalog : Catalog) (number : ℕ) (row : Values) (read : List Table) (table : Table) (key : List ℕ) → read ≡ catalog.tables → number < length read → table ≡ get_or read number table → key ≡ table.key
+pub whole_key : (catalog : Catalog) (number : ℕ) (row : Values) (read : List Table) (table : Table) (key : List ℕ) → read ≡ catalog.tables → number < length read → table ≡ get_or read number table → key ≡ table.pk
     → lacks_one row key ≡ false → HasWholeKey catalog number row
 whole_key catalog number row read table key tables within is key_is whole other n at among =
     let same : table ≡ other = same_Some table other (sym (given_at read catalog.tables number table tables within is) ∙ at) in

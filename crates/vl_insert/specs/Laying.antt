@@ -28,7 +28,7 @@ lacks_one row columns = list_any (λ n. is_null (slice_index_or row n Null)) col
 
 -- no column of the primary key is NULL in the row
 abbrev pub HasWholeKey : Catalog → ℕ → Values → Type 0
-HasWholeKey catalog number row = (table : Table) (n : ℕ) → slice_get catalog.tables number ≡ Some table → Contains table.key n → is_null (slice_index_or row n Null) ≡ false
+HasWholeKey catalog number row = (table : Table) (n : ℕ) → slice_get catalog.tables number ≡ Some table → Contains table.pk n → is_null (slice_index_or row n Null) ≡ false
 
 -- claims in these lookups stand behind the others
 abbrev pub LaysClaims : Catalog → Values → List ℕ → List Outline → List Outline → Type 0

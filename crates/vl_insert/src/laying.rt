@@ -151,7 +151,7 @@ fn add_row(
         return Err(AllocError);
     };
     // Nor has a plan a row that is NULL in its primary key.
-    if lacks_one(row, table.key.as_slice()) {
+    if lacks_one(row, table.pk.as_slice()) {
         return Err(AllocError);
     }
     let target = target_of(alloc, catalog, number, row)?;

@@ -23,5 +23,9 @@ pub fn insert_into_t1(alloc: Global, id: u64, u: u64) -> Result<Stmt, AllocError
     ]?;
     let row = vec![in alloc; Value::Uint(id), Value::Uint(u)]?;
     let rows = vec![in alloc; Row::from_vec(row)]?;
-    Ok(Stmt::Insert(table, Sequence::from_vec(names), Sequence::from_vec(rows)))
+    Ok(Stmt::Insert {
+        table,
+        columns: Sequence::from_vec(names),
+        rows: Sequence::from_vec(rows),
+    })
 }

@@ -159,10 +159,10 @@ pub fn local_result(
         Stmt::ShowWarnings => Ok(Some(show_warnings(alloc, warnings)?)),
         Stmt::SelectVersionComment => Ok(Some(select_version_comment(alloc)?)),
         Stmt::SelectDatabase => Ok(Some(select_database(alloc, chosen)?)),
-        Stmt::Insert(..)
-        | Stmt::Select(..)
-        | Stmt::Update(..)
-        | Stmt::Delete(..)
+        Stmt::Insert { .. }
+        | Stmt::Select { .. }
+        | Stmt::Update { .. }
+        | Stmt::Delete { .. }
         | Stmt::Begin
         | Stmt::StartTransaction
         | Stmt::Commit

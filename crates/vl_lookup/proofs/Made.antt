@@ -45,12 +45,12 @@ pub record IsRead (catalog : Catalog) (number owner_number table_number column t
 
 -- what the rules say of that
 record Parts (lookup : Lookup) (owner table : Table) (column to : ℕ) : Type 0 where
-  key_is_from : table.key ≡ lookup.from
+  key_is_from : table.pk ≡ lookup.from
   wide : is_wide_column table.columns to ≡ true
   off : IsIn lookup.from to → ⊥
   nullable : (n : ℕ) (besides : Column) → slice_get table.columns n ≡ Some besides → (IsIn lookup.from n → ⊥) → (lookup.to ≡ Some n → ⊥) → besides.nullable ≡ true
-  as_many : length lookup.from ≡ length (indexed_columns lookup.unique owner.key column)
-  types : (k m n : ℕ) → slice_get lookup.from k ≡ Some m → slice_get (indexed_columns lookup.unique owner.key column) k ≡ Some n → HaveOneType table.columns owner.columns m n
+  as_many : length lookup.from ≡ length (indexed_columns lookup.unique owner.pk column)
+  types : (k m n : ℕ) → slice_get lookup.from k ≡ Some m → slice_get (indexed_columns lookup.unique owner.pk column) k ≡ Some n → HaveOneType table.columns owner.columns m n
 
 parts : (catalog : Catalog) (number owner_number table_number column to : ℕ) (lookup : Lookup) (owner table : Table) → Checked catalog → IsRead catalog number owner_number table_number column to lookup owner table → Parts lookup owner table column to
 parts catalog number owner_number table_number column to lookup owner table checked read =
@@ -74,8 +74,8 @@ parts catalog number owner_number table_number column to lookup owner table chec
 
 -- ---- the columns of the entry's values
 
-columns_are : (lookup : Lookup) (owner : Table) (column : ℕ) → lookup.column ≡ Some column → from_columns lookup owner ≡ indexed_columns lookup.unique owner.key column
-columns_are lookup owner column is = ap (λ (o : Option ℕ). first_column o ++ cond lookup.unique [] (key_but o owner.key)) is
+columns_are : (lookup : Lookup) (owner : Table) (column : ℕ) → lookup.column ≡ Some column → from_columns lookup owner ≡ indexed_columns lookup.unique owner.pk column
+columns_are lookup owner column is = ap (λ (o : Option ℕ). first_column o ++ cond lookup.unique [] (key_but o owner.pk)) is
 
 whole_from : (row : Values) (columns : List ℕ) → All (λ (value : Value). is_null value ≡ false) (map (at row) columns) → AreWhole row columns
 whole_from row [] all = tt

@@ -34,10 +34,10 @@ pub(crate) fn from_columns(
     requires { lookup.now.column ≡ Some column }
     ensures { IfOk result (λ columns. columns.items ≡ from_columns lookup.now owner.now) }
 {
-    let mut columns = Vec::with_capacity(alloc, owner.key.len().saturating_add(1))?;
+    let mut columns = Vec::with_capacity(alloc, owner.pk.len().saturating_add(1))?;
     columns.push(column)?;
     if !lookup.unique {
-        add_others(&mut columns, owner.key.as_slice(), column)?;
+        add_others(&mut columns, owner.pk.as_slice(), column)?;
     }
     Ok(columns)
 }

@@ -82,7 +82,7 @@ lookups_on catalog table n = filter (is_on n) (filter_map (slice_get catalog.loo
 
 -- NULL has no place in the primary key, and none in a column of a lookup that doesn't ignore it
 abbrev pub needs_value : Catalog → Table → ℕ → Bool
-needs_value catalog table n = list_any (λ k. k == n) table.key || list_any (λ (lookup : Lookup). not lookup.ignore_nulls) (lookups_on catalog table n)
+needs_value catalog table n = list_any (λ k. k == n) table.pk || list_any (λ (lookup : Lookup). not lookup.ignore_nulls) (lookups_on catalog table n)
 
 abbrev pub is_mapped_by : Option Table → Bool
 is_mapped_by table = option_map_or (λ (t : Table). option_map_or (λ (primary : Primary). is_numeric primary.vindex) t.primary false) table false

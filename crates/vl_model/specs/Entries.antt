@@ -43,7 +43,7 @@ first_column None = []
 first_column (Some c) = c ∷ []
 
 abbrev pub from_columns : Lookup → Table → List ℕ
-from_columns lookup owner = first_column lookup.column ++ (if lookup.unique then [] else key_but lookup.column owner.key)
+from_columns lookup owner = first_column lookup.column ++ (if lookup.unique then [] else key_but lookup.column owner.pk)
 
 -- the values that a row's entry has
 abbrev pub from_values : Lookup → Table → Pair → List Value

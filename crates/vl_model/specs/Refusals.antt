@@ -66,7 +66,7 @@ told_if true what = NotSupported what ∷ []
 told_if false what = []
 
 abbrev pub is_key_column : Table → List ℕ → Bool
-is_key_column table name = list_any (λ k. option_map_or (λ (column : Column). bytes_eq column.name name) (slice_get table.columns k) false) table.key
+is_key_column table name = list_any (λ k. option_map_or (λ (column : Column). bytes_eq column.name name) (slice_get table.columns k) false) table.pk
 
 abbrev pub sets_a_key_column : Table → List Assignment → Bool
 sets_a_key_column table assignments = list_any (λ (assignment : Assignment). is_key_column table assignment.column) assignments

@@ -23,15 +23,15 @@ use Rattle.vl_plan.proofs.Sorting.{found_in, no_member, split_member}
 use Rattle.vl_plan.proofs.Storing.{passed_one, stored_held}
 
 off_key : (table : Table) (assignments : List Assignment) (n : ℕ) (column : Column) (a : Assignment) → sets_a_key_column table assignments ≡ false → assigned assignments column.name ≡ Some a
-    → slice_get table.columns n ≡ Some column → Contains table.key n → ⊥
+    → slice_get table.columns n ≡ Some column → Contains table.pk n → ⊥
 off_key table assignments n column a none found at among =
     let same : a.column ≡ column.name = (bytes_eq-Decides a.column column.name).0 (found_in (λ (it : Assignment). bytes_eq it.column column.name) assignments a found).0 in
     let kept : is_key_column table a.column ≡ false =
     subst (λ (o : Option Assignment). option_map_or (λ (it : Assignment). is_key_column table it.column) o false ≡ false) found
     (found_fails (λ (it : Assignment). is_key_column table it.column) (λ (it : Assignment). bytes_eq it.column column.name) assignments none) in
-    let place : slice_get table.key among.0 ≡ Some n = slice_get-get_or table.key among.0 n among.1 ∙ ap (λ (m : ℕ). Some m) among.2 in
+    let place : slice_get table.pk among.0 ≡ Some n = slice_get-get_or table.pk among.0 n among.1 ∙ ap (λ (m : ℕ). Some m) among.2 in
     let differs : option_map_or (λ (it : Column). bytes_eq it.name a.column) (slice_get table.columns n) false ≡ false =
-    none_passes (λ (k : ℕ). option_map_or (λ (it : Column). bytes_eq it.name a.column) (slice_get table.columns k) false) table.key among.0 n kept place in
+    none_passes (λ (k : ℕ). option_map_or (λ (it : Column). bytes_eq it.name a.column) (slice_get table.columns k) false) table.pk among.0 n kept place in
     let apart : bytes_eq column.name a.column ≡ false = subst (λ (o : Option Column). option_map_or (λ (it : Column). bytes_eq it.name a.column) o false ≡ false) at differs in
     let alike : bytes_eq column.name a.column ≡ true = (bytes_eq-Decides column.name a.column).1 (sym same) in
     cc (apart, alike)
@@ -42,7 +42,7 @@ off_key table assignments n column a none found at among =
 pub record IsStoredSetting (catalog : Catalog) (table : Table) (setting : Setting) : Type 0 where
   pub column : Column
   pub is_column : slice_get table.columns setting.column ≡ Some column
-  pub off_key : Contains table.key setting.column → ⊥
+  pub off_key : Contains table.pk setting.column → ⊥
   pub given : Value
   pub is : stored catalog table setting.column column given ≡ Ok setting.value
 

@@ -88,8 +88,8 @@ numbered_column catalog table primary has numeric =
     (ap (λ (o : Option Primary). option_map_or (λ (p : Primary). (p.column == primary.column) && is_numeric p.vindex) o false) has
     ∙ and_true (primary.column == primary.column) (is_numeric primary.vindex) (eq-eqb primary.column primary.column refl) numeric)
 
-key_needs_value : (catalog : Catalog) (table : Table) (primary : Primary) → list_any (λ (k : ℕ). k == primary.column) table.key ≡ true → needs_value catalog table primary.column ≡ true
-key_needs_value catalog table primary in_key = or_true (list_any (λ (k : ℕ). k == primary.column) table.key) _ in_key
+key_needs_value : (catalog : Catalog) (table : Table) (primary : Primary) → list_any (λ (k : ℕ). k == primary.column) table.pk ≡ true → needs_value catalog table primary.column ≡ true
+key_needs_value catalog table primary in_key = or_true (list_any (λ (k : ℕ). k == primary.column) table.pk) _ in_key
 
 number_by : (vindex : Vindex) (o : Option Column) (column : Column) → o ≡ Some column → (rules.is_numeric vindex && not (option_map_or (λ (c : Column). rules.is_number_type c.ty) o false)) ≡ false
     → is_numeric vindex ≡ true → rules.is_number_type column.ty ≡ true
@@ -111,7 +111,7 @@ place_primary catalog table names row values kept is =
     let column = at_number table.columns primary.column kept.within in
     let it = is.each primary.column primary.column column.0 (omega arith) column.1 in
     let parts = taken_parts (needs_value catalog table primary.column) (is_numbered catalog table primary.column) column.0 (fitted (value_named names row column.0.name) column.0.ty column.0.nullable) it.0 it.2 in
-    let some = parts.value (key_needs_value catalog table primary (among_is_in table.key primary.column kept.in_key)) in
+    let some = parts.value (key_needs_value catalog table primary (among_is_in table.pk primary.column kept.in_key)) in
     let ksid =
     ksid_exists primary.vindex column.0.ty column.0.nullable it.0 some (λ numeric. parts.number (numbered_column catalog table primary kept.has numeric))
     (λ numeric. number_column table primary column.0 kept.has kept.fits column.1 numeric) (stored_held catalog table primary.column column.0 (value_named names row column.0.name) it.0 it.2) in

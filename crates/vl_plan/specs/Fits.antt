@@ -33,7 +33,7 @@ pub record IsSettingOf (table : Table) (setting : Setting) : Type 0 where
   pub column : Column
   pub is_column : slice_get table.columns setting.column ≡ Some column
   pub held : is_held column.ty column.nullable setting.value ≡ true
-  pub off_key : Contains table.key setting.column → ⊥
+  pub off_key : Contains table.pk setting.column → ⊥
 
 -- ---- routes
 

@@ -102,7 +102,7 @@ fn lookup_needs(catalog: &Catalog, table: &Table, number: usize) -> bool
 fn needs_value(catalog: &Catalog, table: &Table, number: usize) -> bool
     ensures { result ≡ needs_value catalog.now table.now number }
 {
-    let in_key = is_key(table.key.as_slice(), number);
+    let in_key = is_key(table.pk.as_slice(), number);
     in_key || lookup_needs(catalog, table, number)
 }
 

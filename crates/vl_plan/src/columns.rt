@@ -7,10 +7,11 @@ ghost use Rattle.vl_plan.specs.Planned.{number_in};
 use std::alloc::Global;
 use vl_catalog::{Column, Table};
 use vl_sql::assignment::Assignment;
+use vl_values::ColumnNo;
 use vl_values::bytes::Bytes;
 use vl_values::cause::Cause;
 
-fn column_number(columns: &[Column], name: &[u8]) -> Option<usize>
+fn column_number(columns: &[Column], name: &[u8]) -> Option<ColumnNo>
     ensures { result ≡ column_number columns.now name.now }
 {
     columns
@@ -28,7 +29,7 @@ fn unknown_column(alloc: Global, name: &Bytes) -> Cause
 }
 
 /// The place of the column of this name.
-pub(crate) fn number_of(alloc: Global, table: &Table, name: &Bytes) -> Result<usize, Cause>
+pub(crate) fn number_of(alloc: Global, table: &Table, name: &Bytes) -> Result<ColumnNo, Cause>
     ensures unknown { IfErr result (λ cause. IsFirst cause (unknown_among table.now.columns (name.now ∷ []))) }
     ensures known { OnOk result (unknown_among table.now.columns (name.now ∷ []) ≡ []) }
     ensures number { IfOk result (λ n. column_number table.now.columns name.now ≡ Some n) }
@@ -66,7 +67,11 @@ pub(crate) fn known_set(
 }
 
 /// The places of the columns of these names.
-pub(crate) fn numbers_of(alloc: Global, table: &Table, names: &[Bytes]) -> Result<Vec<usize>, Cause>
+pub(crate) fn numbers_of(
+    alloc: Global,
+    table: &Table,
+    names: &[Bytes],
+) -> Result<Vec<ColumnNo>, Cause>
     ensures unknown { IfErr result (λ cause. IsFirst cause (unknown_among table.now.columns names.now)) }
     ensures known { OnOk result (unknown_among table.now.columns names.now ≡ []) }
     ensures numbers { IfOk result (λ numbers. numbers.items ≡ map (number_in table.now.columns) names.now) }

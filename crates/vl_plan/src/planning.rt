@@ -126,10 +126,19 @@ fn plan_of(alloc: Global, catalog: &Catalog, stmt: &Stmt) -> Result<Plan, Cause>
     ensures planned { IfOk result (λ plan. (refusals catalog.now stmt.now ≡ []) × IsPlanned catalog.now stmt.now plan) }
 {
     match stmt {
-        Stmt::Insert(table, names, rows) => {
-            planned_insert(alloc, catalog, table, names.as_slice(), rows.as_slice())
-        }
-        Stmt::Select(what, table, tests, orders, limit, locking) => planned_select(
+        Stmt::Insert {
+            table,
+            columns,
+            rows,
+        } => { planned_insert(alloc, catalog, table, columns.as_slice(), rows.as_slice()) }
+        Stmt::Select {
+            what,
+            table,
+            tests,
+            orders,
+            limit,
+            for_update,
+        } => planned_select(
             alloc,
             catalog,
             what,
@@ -137,16 +146,20 @@ fn plan_of(alloc: Global, catalog: &Catalog, stmt: &Stmt) -> Result<Plan, Cause>
             tests.as_slice(),
             orders.as_slice(),
             *limit,
-            *locking,
+            *for_update,
         ),
-        Stmt::Update(table, assignments, tests) => planned_update(
+        Stmt::Update {
+            table,
+            assignments,
+            tests,
+        } => planned_update(
             alloc,
             catalog,
             table,
             assignments.as_slice(),
             tests.as_slice(),
         ),
-        Stmt::Delete(table, tests) => planned_delete(alloc, catalog, table, tests.as_slice()),
+        Stmt::Delete { table, tests } => planned_delete(alloc, catalog, table, tests.as_slice()),
         Stmt::Begin | Stmt::StartTransaction => Ok(Plan::Begin),
         Stmt::Commit => Ok(Plan::Commit),
         Stmt::Rollback => Ok(Plan::Rollback),

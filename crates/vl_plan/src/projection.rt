@@ -1,3 +1,4 @@
+use vl_values::ColumnNo;
 use vl_values::items::Items;
 
 /// What a SELECT gives of the rows that match.
@@ -8,5 +9,5 @@ pub enum Projection {
     /// How many rows there are.
     Count,
     /// These columns.
-    Columns(Items<usize>),
+    Columns(Items<ColumnNo>),
 }

@@ -1,6 +1,8 @@
+use vl_values::ColumnNo;
+
 /// A column that ORDER BY names. NULL stands first where the order is ascending.
 #[derive(Clone, Copy, Debug, PartialEq, Eq)]
 pub struct Sort {
-    pub column: usize,
+    pub column: ColumnNo,
     pub descending: bool,
 }

@@ -70,7 +70,7 @@ fn any_named(columns: &[Column], numbers: &[usize], name: &[u8]) -> bool
 fn is_key_column(table: &Table, name: &[u8]) -> bool
     ensures { result ≡ is_key_column table.now name.now }
 {
-    any_named(table.columns.as_slice(), table.key.as_slice(), name)
+    any_named(table.columns.as_slice(), table.pk.as_slice(), name)
 }
 
 // Whether SET names a column of the primary key.

@@ -18,12 +18,12 @@ use Rattle.vl_catalog.specs.Place.{place_of_value}
 
 -- how many values a key of the table has (true), or a row (false)
 abbrev pub width_of : Table → Bool → ℕ
-width_of table true = length table.key
+width_of table true = length table.pk
 width_of table false = length table.columns
 
 -- the column of the value at an index of a key, or of a row
 abbrev pub column_at : Table → Bool → ℕ → Option Column
-column_at table true index = option_and_then (λ column. slice_get table.columns column) (slice_get table.key index)
+column_at table true index = option_and_then (λ column. slice_get table.columns column) (slice_get table.pk index)
 column_at table false index = slice_get table.columns index
 
 -- whether the column may hold the value
@@ -39,7 +39,7 @@ position column (first ∷ others) = if first == column then 0 else suc (positio
 -- a key's value in the column of the table's primary vindex
 abbrev pub primary_value : Table → Option Primary → List Value → Value
 primary_value table None pk = Null
-primary_value table (Some primary) pk = slice_index_or pk (position primary.column table.key) Null
+primary_value table (Some primary) pk = slice_index_or pk (position primary.column table.pk) Null
 
 -- whether the shard is this one
 abbrev pub is_shard : ℕ → Option ℕ → Bool

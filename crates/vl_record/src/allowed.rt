@@ -56,7 +56,7 @@ pub(crate) fn width_of(table: &Table, is_key: bool) -> usize
     ensures { result ≡ width_of table.now is_key }
 {
     if is_key {
-        table.key.len()
+        table.pk.len()
     } else {
         table.columns.len()
     }
@@ -68,7 +68,7 @@ pub(crate) fn column_at(table: &Table, is_key: bool, index: usize) -> Option<&Co
 {
     let columns = table.columns.as_slice();
     if is_key {
-        match table.key.as_slice().get(index) {
+        match table.pk.as_slice().get(index) {
             Some(column) => columns.get(*column),
             None => None,
         }
@@ -110,7 +110,7 @@ fn place_of(
     match key
         .pk
         .as_slice()
-        .get(position(primary.column, table.key.as_slice()))
+        .get(position(primary.column, table.pk.as_slice()))
     {
         Some(value) => catalog.place_of_value(key.table, value),
         None => catalog.place_of_value(key.table, &Value::Null),

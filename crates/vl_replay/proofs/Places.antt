@@ -46,9 +46,9 @@ module _ (catalog : Catalog) (keyed : ArePlacedByKey catalog) (shard : ℕ) (key
       → place_by catalog.rings table.keyspace o row ≡ Some shard → key_place_by catalog table key o ≡ Some shard
   by_primary table row is pk None primary placed = placed
   by_primary table row is pk (Some primary) has placed =
-      ap (λ (pk : Values). option_and_then (value_place_by catalog.rings table.keyspace (Some primary)) (option_and_then (slice_get pk) (position (λ n. n == primary.column) table.key))) pk
+      ap (λ (pk : Values). option_and_then (value_place_by catalog.rings table.keyspace (Some primary)) (option_and_then (slice_get pk) (position (λ n. n == primary.column) table.pk))) pk
       ∙ ap (λ (o : Option Value). option_and_then (value_place_by catalog.rings table.keyspace (Some primary)) o)
-      (found_by (λ c. slice_index_or row c Null) table.key primary.column (position (λ n. n == primary.column) table.key) refl (keyed key.table table primary is has))
+      (found_by (λ c. slice_index_or row c Null) table.pk primary.column (position (λ n. n == primary.column) table.pk) refl (keyed key.table table primary is has))
       ∙ placed
 
   pub row_place : (row : Values) → IsPlacedRow catalog shard key row → key_place catalog key ≡ shard

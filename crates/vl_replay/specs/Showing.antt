@@ -18,7 +18,7 @@ use Rattle.vl_run.specs.Run.{Run}
 
 -- where a table's primary vindex goes by a column, that is one of its primary key: so each row of a key has one place
 abbrev pub ArePlacedByKey : Catalog → Type 0
-ArePlacedByKey catalog = (number : ℕ) (table : Table) (primary : Primary) → slice_get catalog.tables number ≡ Some table → table.primary ≡ Some primary → (k : ℕ) × (slice_get table.key k ≡ Some primary.column)
+ArePlacedByKey catalog = (number : ℕ) (table : Table) (primary : Primary) → slice_get catalog.tables number ≡ Some table → table.primary ≡ Some primary → (k : ℕ) × (slice_get table.pk k ≡ Some primary.column)
 
 -- no shard is down
 abbrev pub AreUp : ℕ → Shards → Type 0

@@ -44,13 +44,13 @@ record Holds (lookup : Lookup) (table : Table) : Type 0 where
   has_to : lookup.to ≡ Some to
   wide : is_wide_column table.columns to ≡ true
   off_from : is_among lookup.from to ≡ false
-  key : table.key ≡ lookup.from
+  key : table.pk ≡ lookup.from
   null : leaves_null table.columns lookup ≡ true
 
 holding : (lookup : Lookup) (table : Table) → holds_lookup lookup table ≡ true → Holds lookup table
 holding lookup table holds =
-    let last = both (are_columns table.columns lookup.from && has_wide_to table.columns lookup && pointwise nat_eq table.key lookup.from) (leaves_null table.columns lookup) holds in
-    let third = both (are_columns table.columns lookup.from && has_wide_to table.columns lookup) (pointwise nat_eq table.key lookup.from) last.0 in
+    let last = both (are_columns table.columns lookup.from && has_wide_to table.columns lookup && pointwise nat_eq table.pk lookup.from) (leaves_null table.columns lookup) holds in
+    let third = both (are_columns table.columns lookup.from && has_wide_to table.columns lookup) (pointwise nat_eq table.pk lookup.from) last.0 in
     let second = both (are_columns table.columns lookup.from) (has_wide_to table.columns lookup) third.0 in
     let to = there (λ n. is_wide_column table.columns n && not (is_among lookup.from n)) lookup.to second.1 in
     let parts = both (is_wide_column table.columns to.0) (not (is_among lookup.from to.0)) to.2 in
@@ -59,7 +59,7 @@ holding lookup table holds =
       has_to = to.1;
       wide = parts.0;
       off_from = not_true (is_among lookup.from to.0) parts.1;
-      key = (bytes_eq-Decides table.key lookup.from).0 third.1;
+      key = (bytes_eq-Decides table.pk lookup.from).0 third.1;
       null = last.1;
     }
 
@@ -234,10 +234,10 @@ kept_with catalog l lookup checked at listed =
       wide = parts.wide;
       to_off_from = λ among. let holds = among_is_in lookup.from parts.to among in let fails = parts.off_from in cc;
       nullable = nullable_besides lookup served.table.columns parts.null;
-      as_many = as_long (is_same_column served.table.columns owner.columns) lookup.from (indexed_columns lookup.unique owner.key from.column) from.fits;
+      as_many = as_long (is_same_column served.table.columns owner.columns) lookup.from (indexed_columns lookup.unique owner.pk from.column) from.fits;
       types = λ k m n at_m at_n.
           one_type served.table.columns owner.columns m n
-          (paired_at (is_same_column served.table.columns owner.columns) lookup.from (indexed_columns lookup.unique owner.key from.column) k m n from.fits at_m at_n);
+          (paired_at (is_same_column served.table.columns owner.columns) lookup.from (indexed_columns lookup.unique owner.pk from.column) k m n from.fits at_m at_n);
       alone = served_alone catalog l served.number lookup at served.has c13.0;
       owns_none = owns_no_lookup catalog lookup served.number served.has c9.1;
       placed = placed_if_sharded catalog lookup served.table placed table_tests.1.1.0;

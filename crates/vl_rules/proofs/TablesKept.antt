@@ -51,13 +51,13 @@ named_once catalog s t a b checked at_a at_b before same =
 
 -- ---- C2: the key
 
-pub key_kept : (catalog : Catalog) (table : Table) → breaks_c2 catalog table ≡ false → are_columns table.columns table.key ≡ true
-key_kept catalog table keeps = not_false (are_columns table.columns table.key) (neither (not (are_columns table.columns table.key)) (stands_in_one catalog table) keeps).0
+pub key_kept : (catalog : Catalog) (table : Table) → breaks_c2 catalog table ≡ false → are_columns table.columns table.pk ≡ true
+key_kept catalog table keeps = not_false (are_columns table.columns table.pk) (neither (not (are_columns table.columns table.pk)) (stands_in_one catalog table) keeps).0
 
-key_within : (table : Table) → are_columns table.columns table.key ≡ true → (n : ℕ) → IsIn table.key n → n < length table.columns
+key_within : (table : Table) → are_columns table.columns table.pk ≡ true → (n : ℕ) → IsIn table.pk n → n < length table.columns
 key_within table holds n (k, at) =
-    let all = (both (nat_lt 0 (length table.key)) (list_all (λ m. nat_lt m (length table.columns)) table.key) holds).1 in
-    ltb-true n (length table.columns) (each_passes (λ m. nat_lt m (length table.columns)) table.key k n all at)
+    let all = (both (nat_lt 0 (length table.pk)) (list_all (λ m. nat_lt m (length table.columns)) table.pk) holds).1 in
+    ltb-true n (length table.columns) (each_passes (λ m. nat_lt m (length table.columns)) table.pk k n all at)
 
 -- ---- C3 to C5 and C12: the primary vindex of a sharded table
 
@@ -69,12 +69,12 @@ first_one catalog table [] holds keeps = cc
 first_one catalog table (first ∷ later) holds keeps =
     not_false (has_one_column catalog table first) (neither (not (has_one_column catalog table first)) (list_any (λ (v : ColumnVindex). not (has_one_column catalog table v)) later) keeps).0
 
-pub primary_kept : (catalog : Catalog) (table : Table) → are_columns table.columns table.key ≡ true → breaks_c4 catalog table ≡ false → breaks_c5 catalog table ≡ false
+pub primary_kept : (catalog : Catalog) (table : Table) → are_columns table.columns table.pk ≡ true → breaks_c4 catalog table ≡ false → breaks_c5 catalog table ≡ false
     → first_has_one catalog table ≡ true → HasPrimary table
 primary_kept catalog table key keeps_c4 keeps_c5 one =
     let off = not_both (first_has_one catalog table) (not (primary_in_key table)) keeps_c4 one in
-    let found = there (λ (p : Primary). list_any (λ n. n == p.column) table.key) table.primary (not_false (primary_in_key table) off) in
-    let among = is_in_among table.key found.0.column found.2 in
+    let found = there (λ (p : Primary). list_any (λ n. n == p.column) table.pk) table.primary (not_false (primary_in_key table) off) in
+    let among = is_in_among table.pk found.0.column found.2 in
     record {
       primary = found.0;
       has = found.1;
@@ -170,13 +170,13 @@ table_kept catalog t table checked at =
     let third = neither (nat_lt 64 (length table.columns) || nat_lt 8 (length table.lookups)) (has_long_name table) fourth.0 in
     let second = neither (nat_lt 64 (length table.columns)) (nat_lt 8 (length table.lookups)) third.0 in
     record {
-      key = ltb-true 0 (length table.key) (both (nat_lt 0 (length table.key)) (list_all (λ n. nat_lt n (length table.columns)) table.key) key).0;
+      key = ltb-true 0 (length table.pk) (both (nat_lt 0 (length table.pk)) (list_all (λ n. nat_lt n (length table.columns)) table.pk) key).0;
       key_columns = key_within table key;
       sharded = λ sharded. primary_kept catalog table key c4 c5 (first_one catalog table table.column_vindexes (in_order catalog table c3 sharded).0 c12);
       unsharded = plain_kept catalog table c3;
       shards = some_shard catalog table c3 (is_sharded catalog table) refl;
       lookups = lists_owned catalog t table checked at c3 (is_sharded catalog table) refl;
-      in_schema = not_false table.in_schema (neither (not table.in_schema) (is_sharded catalog table && not table.in_vschema) (neither (not (are_columns table.columns table.key)) (stands_in_one catalog table) tests.1.0).1).0;
+      in_schema = not_false table.in_schema (neither (not table.in_schema) (is_sharded catalog table && not table.in_vschema) (neither (not (are_columns table.columns table.pk)) (stands_in_one catalog table) tests.1.0).1).0;
       keyspace = ring_at catalog.rings table.keyspace (some_shard catalog table c3 (is_sharded catalog table) refl);
       few_columns = ltb-false 64 (length table.columns) second.0;
       few_lookups = ltb-false 8 (length table.lookups) second.1;

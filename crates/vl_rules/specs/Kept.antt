@@ -18,7 +18,7 @@ IsIn numbers n = (k : ℕ) × (slice_get numbers k ≡ Some n)
 pub record HasPrimary (table : Table) : Type 0 where
   pub primary : Primary
   pub has : table.primary ≡ Some primary
-  pub in_key : IsIn table.key primary.column
+  pub in_key : IsIn table.pk primary.column
   pub within : primary.column < length table.columns
   pub fits : has_numeric_text table ≡ false
 
@@ -34,8 +34,8 @@ Owns catalog t l = (lookup : Lookup) × (slice_get catalog.lookups l ≡ Some lo
 
 -- the table of number t
 pub record IsKeptTable (catalog : Catalog) (t : ℕ) (table : Table) : Type 0 where
-  pub key : 0 < length table.key
-  pub key_columns : (n : ℕ) → IsIn table.key n → n < length table.columns
+  pub key : 0 < length table.pk
+  pub key_columns : (n : ℕ) → IsIn table.pk n → n < length table.columns
   pub sharded : is_sharded catalog table ≡ true → HasPrimary table
   pub unsharded : is_sharded catalog table ≡ false → IsPlain catalog table
   pub shards : 0 < shards_of catalog table
@@ -79,13 +79,13 @@ pub record IsKeptLookup (catalog : Catalog) (l : ℕ) (lookup : Lookup) : Type 0
   pub listed : IsIn owner.lookups l
   pub listed_once : (t : ℕ) (other : Table) → slice_get catalog.tables t ≡ Some other → IsIn other.lookups l → t ≡ owner_number
   -- its entries: the key, the keyspace id, and nothing besides that may not be NULL
-  pub key_is_from : table.key ≡ lookup.from
+  pub key_is_from : table.pk ≡ lookup.from
   pub wide : is_wide_column table.columns to ≡ true
   pub to_off_from : IsIn lookup.from to → ⊥
   pub nullable : (n : ℕ) (besides : Column) → slice_get table.columns n ≡ Some besides → (IsIn lookup.from n → ⊥) → (lookup.to ≡ Some n → ⊥) → besides.nullable ≡ true
   -- the `from` columns hold the owner's columns
-  pub as_many : length lookup.from ≡ length (indexed_columns lookup.unique owner.key column)
-  pub types : (k m n : ℕ) → slice_get lookup.from k ≡ Some m → slice_get (indexed_columns lookup.unique owner.key column) k ≡ Some n
+  pub as_many : length lookup.from ≡ length (indexed_columns lookup.unique owner.pk column)
+  pub types : (k m n : ℕ) → slice_get lookup.from k ≡ Some m → slice_get (indexed_columns lookup.unique owner.pk column) k ≡ Some n
       → HaveOneType table.columns owner.columns m n
   -- the table serves it alone, owns no lookup, and is placed by its first `from` column
   pub alone : (m : ℕ) (other : Lookup) → slice_get catalog.lookups m ≡ Some other → other.table ≡ Some table_number → m ≡ l

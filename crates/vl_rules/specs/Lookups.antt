@@ -48,7 +48,7 @@ leaves_null columns lookup =
 -- the table has the lookup's columns, and its primary key is the `from` columns in their order
 abbrev pub holds_lookup : Lookup → Table → Bool
 holds_lookup lookup table =
-    are_columns table.columns lookup.from && has_wide_to table.columns lookup && pointwise nat_eq table.key lookup.from && leaves_null table.columns lookup
+    are_columns table.columns lookup.from && has_wide_to table.columns lookup && pointwise nat_eq table.pk lookup.from && leaves_null table.columns lookup
 
 -- C6: the lookup's table or a column of it is missing, or is no table for its entries
 abbrev pub breaks_c6 : Catalog → Lookup → Bool
@@ -77,7 +77,7 @@ indexed_columns unique key column = column ∷ (if unique then [] else other_key
 
 abbrev pub are_from_columns : Lookup → Table → Table → ℕ → Bool
 are_from_columns lookup table owner column =
-    pointwise (is_same_column table.columns owner.columns) lookup.from (indexed_columns lookup.unique owner.key column)
+    pointwise (is_same_column table.columns owner.columns) lookup.from (indexed_columns lookup.unique owner.pk column)
 
 -- the owner's column: that of the lookup where the table that lists it is the owner, else the column of
 -- the name that is listed

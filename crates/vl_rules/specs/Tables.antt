@@ -31,7 +31,7 @@ stands_in_one catalog table = not table.in_schema || (is_sharded catalog table &
 
 -- C2: no primary key, or only one of VSchema and schema
 abbrev pub breaks_c2 : Catalog → Table → Bool
-breaks_c2 catalog table = not (are_columns table.columns table.key) || stands_in_one catalog table
+breaks_c2 catalog table = not (are_columns table.columns table.pk) || stands_in_one catalog table
 
 -- ---- C3
 
@@ -62,7 +62,7 @@ breaks_c3 catalog table =
 -- ---- C4 and C5
 
 abbrev pub primary_in_key : Table → Bool
-primary_in_key table = option_map_or (λ (primary : Primary). list_any (λ n. n == primary.column) table.key) table.primary false
+primary_in_key table = option_map_or (λ (primary : Primary). list_any (λ n. n == primary.column) table.pk) table.primary false
 
 -- C4: the column of the primary vindex isn't in the primary key; not looked at where that column vindex
 -- breaks C12

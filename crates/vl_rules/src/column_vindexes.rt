@@ -95,7 +95,7 @@ fn is_key_rest(owner: Option<&Table>, column: &[u8], rest: &[Bytes]) -> bool
         Some(owner) => {
             let columns = owner.columns.as_slice();
             let number = column_number(columns, column);
-            are_others(columns, owner.key.as_slice(), number, rest)
+            are_others(columns, owner.pk.as_slice(), number, rest)
         }
         None => false,
     }

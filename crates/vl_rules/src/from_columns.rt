@@ -37,10 +37,10 @@ fn is_same_column(left: &[Column], right: &[Column], m: usize, n: usize) -> bool
 // Whether the columns have the types of the owner's primary key columns other than this one, in their
 // order.
 fn are_other_keys(columns: &[Column], numbers: &[usize], owner: &Table, column: usize) -> bool
-    ensures { result ≡ pointwise (is_same_column columns.now owner.now.columns) numbers.now (other_keys owner.now.key (Some column)) }
+    ensures { result ≡ pointwise (is_same_column columns.now owner.now.columns) numbers.now (other_keys owner.now.pk (Some column)) }
 {
     let mut left = numbers;
-    for other in owner.key.as_slice() {
+    for other in owner.pk.as_slice() {
         if *other != column {
             match left {
                 [number, more @ ..] => {

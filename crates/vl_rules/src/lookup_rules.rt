@@ -51,7 +51,7 @@ fn holds_lookup(lookup: &Lookup, table: &Table) -> bool
     let columns = table.columns.as_slice();
     are_columns(columns, lookup.from.as_slice())
         && has_wide_to(columns, lookup)
-        && table.key.as_slice() == lookup.from.as_slice()
+        && table.pk.as_slice() == lookup.from.as_slice()
         && leaves_null(columns, lookup)
 }
 

@@ -36,7 +36,7 @@ fn stands_in_one(catalog: &Catalog, table: &Table) -> bool
 pub(crate) fn breaks_c2(catalog: &Catalog, table: &Table) -> bool
     ensures { result ≡ breaks_c2 catalog.now table.now }
 {
-    !are_columns(table.columns.as_slice(), table.key.as_slice()) || stands_in_one(catalog, table)
+    !are_columns(table.columns.as_slice(), table.pk.as_slice()) || stands_in_one(catalog, table)
 }
 
 fn shards_of(catalog: &Catalog, table: &Table) -> usize
@@ -111,7 +111,7 @@ fn primary_in_key(table: &Table) -> bool
     ensures { result ≡ primary_in_key table.now }
 {
     match table.primary {
-        Some(primary) => is_among(table.key.as_slice(), primary.column),
+        Some(primary) => is_among(table.pk.as_slice(), primary.column),
         None => false,
     }
 }

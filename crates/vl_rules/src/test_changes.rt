@@ -122,7 +122,7 @@ fn changed_table(
         TableChange::Name(text) => table.name = name(alloc, text)?,
         TableChange::OffSchema => table.in_schema = false,
         TableChange::OffVschema => table.in_vschema = false,
-        TableChange::Key(key) => table.key = numbers(alloc, key)?,
+        TableChange::Key(key) => table.pk = numbers(alloc, key)?,
         TableChange::NoPrimary => table.primary = None,
         TableChange::By(column, vindex) => table.primary = Some(Primary { column, vindex }),
         TableChange::Type(place, ty) => {

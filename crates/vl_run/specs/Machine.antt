@@ -54,7 +54,7 @@ InHand u tx k = (holder : Who) × ((u k).holder ≡ Some holder) × (holder.tx =
 
 -- the value that a key gives a column of its primary key
 abbrev pub key_value : Table → ℕ → Key → Option Value
-key_value table c key = option_and_then (slice_get key.pk) (position (λ n. n == c) table.key)
+key_value table c key = option_and_then (slice_get key.pk) (position (λ n. n == c) table.pk)
 
 abbrev pub key_place_by : Catalog → Table → Key → Option Primary → Option ℕ
 key_place_by catalog table key None = Some (first_shard catalog.rings table.keyspace)

@@ -27,7 +27,7 @@ flag bit is = if is then bit else 0
 
 -- 1 for a column that isn't NULL, 2 for one of the primary key, 32 for an unsigned number
 abbrev pub flags_of : Table → ℕ → Column → ℕ
-flags_of table n column = flag 1 (not column.nullable) + flag 2 (list_any (λ k. k == n) table.key) + unsigned_flag column.ty
+flags_of table n column = flag 1 (not column.nullable) + flag 2 (list_any (λ k. k == n) table.pk) + unsigned_flag column.ty
 
 -- ---- columns
 

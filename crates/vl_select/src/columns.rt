@@ -29,7 +29,7 @@ fn flags_of(table: &Table, n: usize, column: &Column) -> u16
     ensures { result ≡ flags_of table.now n column.now }
 {
     let not_null = if column.nullable { 0 } else { NOT_NULL };
-    let in_key = if table.key.as_slice().contains(&n) {
+    let in_key = if table.pk.as_slice().contains(&n) {
         PRIMARY_KEY
     } else {
         0

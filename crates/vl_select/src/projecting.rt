@@ -7,6 +7,7 @@ ghost use Rattle.vl_select.specs.Sorting.{value_in};
 
 use std::alloc::{AllocError, Global};
 use vl_plan::projection::Projection;
+use vl_values::ColumnNo;
 use vl_values::key::Key;
 use vl_values::row::Row;
 use vl_values::value::Value;
@@ -28,7 +29,7 @@ fn named_again(alloc: Global, columns: &[usize]) -> Result<Vec<bool>, AllocError
 fn value_of(
     alloc: Global,
     row: &mut Vec<Value>,
-    column: usize,
+    column: ColumnNo,
     again: bool,
 ) -> Result<Value, AllocError>
     ensures value { IfOk result (λ value. value ≡ value_in column row.old.items) }

@@ -230,14 +230,19 @@ fn print_statement(alloc: Global, stmt: &Stmt, writer: &mut Writer) -> Result<()
     ensures { OnOk result (writer.new ≡ added writer.old (grammar.statement stmt.now)) }
 {
     match stmt {
-        Stmt::Insert(table, columns, rows) => print_insert(
-            alloc,
+        Stmt::Insert {
             table,
-            columns.as_slice(),
-            rows.as_slice(),
-            writer,
-        ),
-        Stmt::Select(what, table, tests, orders, limit, lock) => {
+            columns,
+            rows,
+        } => print_insert(alloc, table, columns.as_slice(), rows.as_slice(), writer),
+        Stmt::Select {
+            what,
+            table,
+            tests,
+            orders,
+            limit,
+            for_update,
+        } => {
             writer.key(b"SELECT")?;
             print_what(alloc, what, writer)?;
             print_from(
@@ -246,18 +251,22 @@ fn print_statement(alloc: Global, stmt: &Stmt, writer: &mut Writer) -> Result<()
                 tests.as_slice(),
                 orders.as_slice(),
                 *limit,
-                *lock,
+                *for_update,
                 writer,
             )
         }
-        Stmt::Update(table, assignments, tests) => print_update(
+        Stmt::Update {
+            table,
+            assignments,
+            tests,
+        } => print_update(
             alloc,
             table,
             assignments.as_slice(),
             tests.as_slice(),
             writer,
         ),
-        Stmt::Delete(table, tests) => print_delete(alloc, table, tests.as_slice(), writer),
+        Stmt::Delete { table, tests } => print_delete(alloc, table, tests.as_slice(), writer),
         Stmt::Begin => writer.key(b"BEGIN"),
         Stmt::StartTransaction => print_keys(b"START", b"TRANSACTION", writer),
         Stmt::Commit => writer.key(b"COMMIT"),

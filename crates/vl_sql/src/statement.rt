@@ -68,7 +68,12 @@ fn insert(alloc: Global, tokens: Tokens<'_>) -> Result<(Stmt, Tokens<'_>), ReadE
     let (columns, rest) = columns(alloc, rest)?;
     let rest = key(b"VALUES", rest)?;
     let (rows, rest) = rows(alloc, rest)?;
-    Ok((Stmt::Insert(table, columns, rows), rest))
+    let stmt = Stmt::Insert {
+        table,
+        columns,
+        rows,
+    };
+    Ok((stmt, rest))
 }
 
 // `FROM table [WHERE ..] [ORDER BY ..] [LIMIT n] [FOR UPDATE]`
@@ -81,8 +86,16 @@ fn from(alloc: Global, what: What, tokens: Tokens<'_>) -> Result<(Stmt, Tokens<'
     let (tests, rest) = tests(alloc, rest)?;
     let (orders, rest) = orders(alloc, rest)?;
     let (limit, rest) = limit(rest)?;
-    let (lock, rest) = for_update(rest)?;
-    Ok((Stmt::Select(what, table, tests, orders, limit, lock), rest))
+    let (for_update, rest) = for_update(rest)?;
+    let stmt = Stmt::Select {
+        what,
+        table,
+        tests,
+        orders,
+        limit,
+        for_update,
+    };
+    Ok((stmt, rest))
 }
 
 // `@@version_comment LIMIT 1`
@@ -162,7 +175,12 @@ fn update(alloc: Global, tokens: Tokens<'_>) -> Result<(Stmt, Tokens<'_>), ReadE
     let rest = key(b"SET", rest)?;
     let (assignments, rest) = assignments(alloc, rest)?;
     let (tests, rest) = tests(alloc, rest)?;
-    Ok((Stmt::Update(table, assignments, tests), rest))
+    let stmt = Stmt::Update {
+        table,
+        assignments,
+        tests,
+    };
+    Ok((stmt, rest))
 }
 
 // `FROM table [WHERE ..]`
@@ -173,7 +191,7 @@ fn delete(alloc: Global, tokens: Tokens<'_>) -> Result<(Stmt, Tokens<'_>), ReadE
     let rest = key(b"FROM", tokens)?;
     let (table, rest) = table(alloc, rest)?;
     let (tests, rest) = tests(alloc, rest)?;
-    Ok((Stmt::Delete(table, tests), rest))
+    Ok((Stmt::Delete { table, tests }, rest))
 }
 
 // `TRANSACTION`

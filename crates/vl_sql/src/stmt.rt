@@ -12,14 +12,32 @@ use vl_values::row::Row;
 pub enum Stmt {
     /// `INSERT INTO table (column, ..) VALUES (literal, ..), ..`: the columns, no name twice, and
     /// the rows, 1 to 1,000 of them.
-    Insert(TableName, Sequence<Bytes>, Sequence<Row>),
+    Insert {
+        table: TableName,
+        columns: Sequence<Bytes>,
+        rows: Sequence<Row>,
+    },
     /// `SELECT what FROM table [WHERE test AND ..] [ORDER BY column, ..] [LIMIT n] [FOR UPDATE]`:
     /// the tests, the orders, 8 at most, the limit, and whether FOR UPDATE is said.
-    Select(What, TableName, Sequence<Test>, Sequence<Order>, Option<u64>, bool),
+    Select {
+        what: What,
+        table: TableName,
+        tests: Sequence<Test>,
+        orders: Sequence<Order>,
+        limit: Option<u64>,
+        for_update: bool,
+    },
     /// `UPDATE table SET column = literal, .. [WHERE test AND ..]`: no column is set twice.
-    Update(TableName, Sequence<Assignment>, Sequence<Test>),
+    Update {
+        table: TableName,
+        assignments: Sequence<Assignment>,
+        tests: Sequence<Test>,
+    },
     /// `DELETE FROM table [WHERE test AND ..]`
-    Delete(TableName, Sequence<Test>),
+    Delete {
+        table: TableName,
+        tests: Sequence<Test>,
+    },
     Begin,
     StartTransaction,
     Commit,

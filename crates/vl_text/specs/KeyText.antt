@@ -19,7 +19,7 @@ column_type columns column = option_map_or (λ (c : Column). c.ty) (slice_get co
 
 -- the type of the table's key column n
 abbrev pub key_type_in : ℕ → Table → ColType
-key_type_in n table = option_map_or (column_type table.columns) (slice_get table.key n) unknown_type
+key_type_in n table = option_map_or (column_type table.columns) (slice_get table.pk n) unknown_type
 
 -- the same of the table of a number
 abbrev pub key_type : Catalog → ℕ → ℕ → ColType

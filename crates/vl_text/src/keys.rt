@@ -25,7 +25,7 @@ fn column_type(columns: &[Column], column: usize) -> ColType
 fn key_type_in(table: &Table, n: usize) -> ColType
     ensures { result ≡ key_type_in n table.now }
 {
-    match table.key.as_slice().get(n) {
+    match table.pk.as_slice().get(n) {
         Some(column) => column_type(table.columns.as_slice(), *column),
         None => UNKNOWN_TYPE,
     }

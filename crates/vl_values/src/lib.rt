@@ -42,6 +42,9 @@ pub mod warning;
 /// A table's number in its catalog, counted from 0.
 pub type TableNo = u32;
 
+/// A column's number: its place among the columns of its table, counted from 0.
+pub type ColumnNo = usize;
+
 /// A shard's number in its catalog, counted from 0.
 pub type ShardNo = u32;
 

@@ -24,6 +24,4 @@ pub use crate::primary::{binary_md5, numeric};
 pub use crate::ring::Ring;
 pub use crate::ring_fault::RingFault;
 pub use crate::side::Side;
-
-/// A shard's number: its place in the ring, counted from 0.
-pub type ShardNo = u32;
+pub use vl_values::ShardNo;
