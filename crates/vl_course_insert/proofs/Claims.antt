@@ -102,7 +102,7 @@ module _ (catalog : Catalog) (checked : Checked catalog) where
         let table : ready.entry.table ≡ kept.table = same_Some ready.entry.table kept.table (sym ready.entry.is_table ∙ ap (slice_get catalog.tables) (sym number) ∙ kept.is_table) in
         let values = made.needs.values in
         let owner : values.0 ≡ made.owner = same_Some values.0 made.owner (sym values.1 ∙ made.owned.is_owner) in
-        ready.entry.keyed ∙ ap (λ (t : Table). map (λ c. slice_index_or claim.row c Null) t.key) table ∙ ap (map (λ c. slice_index_or claim.row c Null)) kept.key_is_from ∙ values.2
+        ready.entry.keyed ∙ ap (λ (t : Table). map (λ c. slice_index_or claim.row c Null) t.pk) table ∙ ap (map (λ c. slice_index_or claim.row c Null)) kept.key_is_from ∙ values.2
         ∙ ap (λ (t : Table). from_values made.lookup t (key_of made.owner_number made.owner row, row)) owner
 
     abbrev key_for : Values → Key

@@ -85,7 +85,7 @@ pub whole_key : (catalog : Catalog) (number : ℕ) (row : Values) (read : List T
     → lacks_one row key ≡ false → HasWholeKey catalog number row
 whole_key catalog number row read table key tables within is key_is whole other n at among =
     let same : table ≡ other = same_Some table other (sym (given_at read catalog.tables number table tables within is) ∙ at) in
-    absent (λ m. is_null (slice_index_or row m Null)) key n whole (subst (λ (ns : List ℕ). Contains ns n) (sym (key_is ∙ ap (λ (t : Table). t.key) same)) among)
+    absent (λ m. is_null (slice_index_or row m Null)) key n whole (subst (λ (ns : List ℕ). Contains ns n) (sym (key_is ∙ ap (λ (t : Table). t.pk) same)) among)
 
 -- a row of the plan that isn't NULL in the column of a lookup of its table has an entry there
 pub indexed : (catalog : Catalog) (plan : InsertPlan) (row : Values) → Checked catalog → FitsInsert catalog plan → Contains plan.rows row → HasWholeKey catalog plan.table row → (l : ℕ) → Contains (lookups_of catalog plan.table) l
