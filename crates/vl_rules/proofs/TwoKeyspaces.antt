@@ -21,7 +21,7 @@ corder = record {
   in_schema = true;
   in_vschema = true;
   columns = column (codes "customer_id") BigUint false ∷ column (codes "order_id") BigUint false ∷ column (codes "sku") (VarChar 64) true ∷ [];
-  key = 0 ∷ 1 ∷ [];
+  pk = 0 ∷ 1 ∷ [];
   primary = Some (record { column = 0; vindex = Numeric });
   column_vindexes = column_vindex (codes "customer_id") (codes "num") ∷ column_vindex (codes "order_id") (codes "corder_order") ∷ [];
   lookups = 0 ∷ [];
@@ -34,7 +34,7 @@ corder_order_idx = record {
   in_schema = true;
   in_vschema = true;
   columns = column (codes "order_id") BigUint false ∷ column (codes "keyspace_id") (VarBinary 16) true ∷ [];
-  key = 0 ∷ [];
+  pk = 0 ∷ [];
   primary = None;
   column_vindexes = [];
   lookups = [];
@@ -68,7 +68,7 @@ with_tables owner table lookup = record {
 two_keyspaces_checked : Checked (with_tables corder corder_order_idx corder_order)
 two_keyspaces_checked = refl
 
-off_key : first_broken (with_tables (record corder { key = 1 ∷ [] }) corder_order_idx corder_order) ≡ Some (codes "corder", PrimaryVindexInKey)
+off_key : first_broken (with_tables (record corder { pk = 1 ∷ [] }) corder_order_idx corder_order) ≡ Some (codes "corder", PrimaryVindexInKey)
 off_key = refl
 
 off_name : first_broken (with_tables corder (record corder_order_idx { name = codes "corder" }) corder_order) ≡ Some (codes "corder", UniqueTableName)
