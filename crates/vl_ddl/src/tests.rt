@@ -46,7 +46,7 @@ fn add_table(alloc: Global, text: &mut Vec<u8>, table: &TableDef) -> Result<(), 
         add_column(alloc, text, column)?;
     }
     text.extend_from_slice(b"key ")?;
-    add_joined(text, table.pk.as_slice())?;
+    add_joined(text, table.key.as_slice())?;
     text.extend_from_slice(b" ignored ")?;
     add_joined(text, table.ignored.as_slice())?;
     text.extend_from_slice(b";")?;

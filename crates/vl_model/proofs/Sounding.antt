@@ -40,4 +40,4 @@ value_alone false by n key row is has = absurd (cc)
 pub unique_entry : (catalog : Catalog) (lookup : Lookup) (n : ℕ) (row entry : Pair) → lookup.unique ≡ true → lookup.column ≡ Some n → Needs catalog lookup row entry
     → map (column entry) lookup.from ≡ column row n ∷ []
 unique_entry catalog lookup n row entry unique has needs =
-    needs.values.2 ∙ value_alone lookup.unique lookup.column n needs.values.0.key row unique has
+    needs.values.2 ∙ value_alone lookup.unique lookup.column n needs.values.0.pk row unique has
