@@ -1,1 +1,5 @@
-
+pub mod Acting
+pub mod Cases
+pub mod Lanes
+pub mod Told
+pub mod Turned

@@ -9,6 +9,7 @@ ghost use Rattle.vl_port.specs.Calls.{HasActed, PortView};
 ghost use Rattle.vl_port.specs.Serving.{Serves};
 ghost use Rattle.vl_port.specs.Transaction.{IsIn};
 ghost use Rattle.vl_plan.specs.declared.plan.Plan.{Plan};
+ghost use Rattle.vl_plan.specs.Fits.{Fits};
 ghost use Rattle.vl_sql.specs.declared.stmt.Stmt.{Stmt};
 ghost use Rattle.vl_statement.specs.declared.program_told.ProgramTold.{ProgramTold};
 ghost use Rattle.vl_exec.specs.declared.program.Program.{Program};
@@ -19,6 +20,7 @@ ghost use Rattle.vl_exec.specs.Stepping.{Stepped};
 ghost use Rattle.vl_run.specs.declared.deed.Deed.TheVariants as deeds;
 ghost use Rattle.vl_run.specs.declared.event.Event.{Event};
 ghost use Rattle.vl_run.specs.declared.request.Request.TheVariants as requests;
+ghost use Rattle.vl_run.specs.declared.tag.Tag.TheVariants as tags;
 ghost use Rattle.vl_run.specs.Allowed.{now_of};
 ghost use Rattle.vl_run.specs.Run.{Run};
 ghost use Rattle.vl_run.specs.Run.Point.{Happened};
@@ -33,7 +35,7 @@ ghost use Rattle.vl_course_program.specs.Programs.{HasDone, IsProgramAt, Program
 
 /// A statement that is said stands at its beginning.
 pub fn begins()
-    ensures { (catalog : Catalog) (limits : Limits) (e : Event) (past : Run) (stmt : Stmt) → e.request ≡ requests.Say stmt → (plan : Plan) (program : Program) → can_run catalog plan ≡ true → IsBegun catalog plan program → IsProgramAt catalog limits (now_of e past) e.session plan program }
+    ensures { (catalog : Catalog) (limits : Limits) (e : Event) (past : Run) (stmt : Stmt) → e.request ≡ requests.Say stmt → (plan : Plan) (program : Program) → Fits catalog plan → can_run catalog plan ≡ true → IsBegun catalog plan program → IsProgramAt catalog limits (now_of e past) e.session plan program }
 {}
 
 /// One that is asked to go on stands where it stood.
@@ -44,7 +46,7 @@ pub fn stands_still()
 /// An event of another session, and a kill of one of its own shard sessions, leave it where it stood.
 pub fn stands_aside()
     ensures other { (catalog : Catalog) (limits : Limits) (e : Event) (past : Run) (n : ℕ) → (e.session == n) ≡ false → (plan : Plan) (program : Program) → IsProgramAt catalog limits past n plan program → IsProgramAt catalog limits (Happened e ∷ past) n plan program }
-    ensures killed { (catalog : Catalog) (limits : Limits) (e : Event) (past : Run) (who : Who) (shard : ℕ) → e.request ≡ requests.Kill who shard → e.deed ≡ deeds.Nothing → (plan : Plan) (program : Program) → IsProgramAt catalog limits past e.session plan program → IsProgramAt catalog limits (Happened e ∷ past) e.session plan program }
+    ensures killed { (catalog : Catalog) (limits : Limits) (e : Event) (past : Run) (who : Who) (shard : ℕ) → e.request ≡ requests.Kill who shard → e.deed ≡ deeds.Nothing → e.told ≡ tags.Nothing → (plan : Plan) (program : Program) → IsProgramAt catalog limits past e.session plan program → IsProgramAt catalog limits (Happened e ∷ past) e.session plan program }
 {}
 
 /// The act that is due of a program fits its shard and is in its lane.
