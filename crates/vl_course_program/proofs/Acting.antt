@@ -22,7 +22,7 @@ use Rattle.vl_insert.specs.declared.task.Task.TheVariants as tasks
 use Rattle.vl_insert.specs.Progress.{Progress as Inserting}
 use Rattle.vl_insert.specs.Stepping.{Stepped as InsertStepped}
 use Rattle.vl_insert.specs.Stepping.Stepped.{Claimed as InsertClaimed, Did as InsertDid, Full as InsertFull, Idle as InsertIdle, NoRoom as InsertNoRoom}
-use Rattle.vl_select.specs.Progress.{Action as Read, Progress as Selecting, due as read_due}
+use Rattle.vl_select.specs.Progress.{Action as Read, Progress as Selecting}
 use Rattle.vl_select.specs.Stepping.{Stepped as SelectStepped}
 use Rattle.vl_select.specs.Stepping.Stepped.{Idle as SelectIdle, Locked as SelectLocked, Looked as SelectLooked, NoRoom as SelectNoRoom}
 use Rattle.vl_change.specs.declared.action.Action.{Action}
@@ -36,7 +36,6 @@ use Rattle.vl_exec.specs.Stepping.{Stepped}
 use Rattle.vl_run.specs.Run.{Run}
 use Rattle.vl_course.specs.Changing.{due_as as change_as}
 use Rattle.vl_course.specs.Selecting.{due_as as read_as, mark_of, reader_of}
-use Rattle.vl_course.specs.Turning.{Due}
 use Rattle.vl_course.proofs.Listed.{among_as}
 use Rattle.vl_course_insert.specs.Inserting.{due_as as insert_as}
 use Rattle.vl_course_program.specs.Programs.{HasDone, IsProgramAt, due_of}

@@ -1,5 +1,5 @@
 -- A program that is said stands at its beginning; one that is asked to go on, or to which others do nothing, where it stood.
-use Rattle.std.proofs.Common.{◌≡◌, ◌==◌, ◌&&◌, ◌∷◌, ℕ, Bool, true, false, [], sym, subst, arith}
+use Rattle.std.proofs.Common.{◌≡◌, ◌==◌, ◌∷◌, ℕ, true, false, [], sym, subst, arith}
 use Rattle.std.proofs.lemmas.Bool.{and_parts}
 use Rattle.vl_values.specs.declared.pred.Pred.{Pred}
 use Rattle.vl_catalog.specs.declared.catalog.Catalog.{Catalog}

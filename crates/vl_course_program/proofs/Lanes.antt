@@ -21,7 +21,6 @@ use Rattle.vl_port.specs.declared.limits.Limits.{Limits}
 use Rattle.vl_port.specs.declared.tx_state.TxState.{TxState}
 use Rattle.vl_port.specs.Asking.{reader_in}
 use Rattle.vl_port.specs.Placing.{IsActOn}
-use Rattle.vl_port.specs.Taking.{takes_keys}
 use Rattle.vl_port.specs.Transaction.{listed}
 use Rattle.vl_port.specs.View.{Values}
 use Rattle.vl_model.specs.declared.route.Route.{Route}
@@ -33,7 +32,7 @@ use Rattle.vl_plan.specs.declared.select_plan.SelectPlan.{SelectPlan}
 use Rattle.vl_lookup.specs.declared.stage.Stage.{Stage}
 use Rattle.vl_lookup.specs.declared.stage.Stage.TheVariants as stages
 use Rattle.vl_lookup.specs.Making.{IsClaim, IsStageOn}
-use Rattle.vl_lookup.specs.Progress.{Progress as Claiming, due_at}
+use Rattle.vl_lookup.specs.Progress.{Progress as Claiming}
 use Rattle.vl_insert.specs.declared.insertion.Insertion.{Insertion}
 use Rattle.vl_insert.specs.declared.task.Task.{Task}
 use Rattle.vl_insert.specs.declared.task.Task.TheVariants as tasks

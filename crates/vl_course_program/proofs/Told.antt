@@ -1,11 +1,10 @@
 -- What the port answers to an act that fits and is in its lane is what the run says.
-use Rattle.std.proofs.Common.{◌≡◌, ◌==◌, ◌∙◌, ◌&&◌, ◌⊎◌, inl, inr, not, ℕ, Bool, true, false, List, [], Option, Some, None, refl, sym, ap, subst, arith}
+use Rattle.std.proofs.Common.{◌≡◌, ◌==◌, ◌∙◌, ◌&&◌, inl, inr, not, ℕ, Bool, true, false, List, [], Option, Some, None, refl, sym, ap, subst, arith}
 use Rattle.std.specs.Prelude.{Contains}
 use Rattle.std.specs.Option.{is_some}
 use Rattle.std.proofs.lemmas.Bool.{and_from, and_parts, eq-eqb, false_from_ne_true, not_from_false}
-use Rattle.vl_values.specs.declared.group.Group.TheVariants.{Main, Post, Pre}
+use Rattle.vl_values.specs.declared.group.Group.TheVariants.{Post}
 use Rattle.vl_values.specs.declared.key.Key.{Key}
-use Rattle.vl_values.specs.declared.limit.Limit.{Limit as Quantity}
 use Rattle.vl_catalog.specs.declared.catalog.Catalog.{Catalog}
 use Rattle.vl_port.specs.declared.act.Act.{Act}
 use Rattle.vl_port.specs.declared.act.Act.TheVariants.{Insert, Put, Remove, RemoveIf, Find}

@@ -1,5 +1,5 @@
 -- How far the program of a statement has come, as the run has it, whichever statement it is.
-use Rattle.std.specs.Prelude.{◌≡◌, ◌⊎◌, ◌∷◌, ℕ, false, List, [], Option, Some, None, Contains}
+use Rattle.std.specs.Prelude.{◌≡◌, ◌∷◌, ℕ, false, List, [], Option, Some, None, Contains}
 use Rattle.vl_values.specs.declared.key.Key.{Key}
 use Rattle.vl_catalog.specs.declared.catalog.Catalog.{Catalog}
 use Rattle.vl_sql.specs.declared.stmt.Stmt.{Stmt}

@@ -6,7 +6,6 @@ ghost use Rattle.vl_port.specs.declared.limits.Limits.{Limits};
 ghost use Rattle.vl_port.specs.declared.tx_state.TxState.{TxState};
 ghost use Rattle.vl_port.specs.declared.who.Who.{Who};
 ghost use Rattle.vl_port.specs.Calls.{HasActed, PortView};
-ghost use Rattle.vl_port.specs.Serving.{Serves};
 ghost use Rattle.vl_port.specs.Transaction.{IsIn};
 ghost use Rattle.vl_plan.specs.declared.plan.Plan.{Plan};
 ghost use Rattle.vl_plan.specs.Fits.{Fits};
