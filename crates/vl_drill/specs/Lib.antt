@@ -1,0 +1,4 @@
+pub mod Drilling
+pub mod Generator
+pub mod Statements
+pub mod Turns
