@@ -1,0 +1,5 @@
+pub mod Audit
+pub mod Finding
+pub mod Gathering
+pub mod Giving
+pub mod Mapping
