@@ -1,0 +1,4 @@
+pub mod Ready
+pub mod Saying
+pub mod Standing
+pub mod Turning
