@@ -1,0 +1,12 @@
+pub mod Answering
+pub mod Coming
+pub mod Facts
+pub mod Hand
+pub mod Happening
+pub mod Marked
+pub mod Owned
+pub mod Replies
+pub mod Rowless
+pub mod Turns
+pub mod Unlisted
+pub mod Wholes
