@@ -1,0 +1,9 @@
+pub mod Answering
+pub mod Dealings
+pub mod Facts
+pub mod Keeping
+pub mod Marks
+pub mod Numbers
+pub mod Opening
+pub mod Parts
+pub mod Shown
